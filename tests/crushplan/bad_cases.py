@@ -31,7 +31,7 @@ def changed(dump, *path):
 
 # files of a folder, by name, and what has to be said
 FILES = (
-    ("not JSON", {"crush.json": b"{\n\n oops"}, "crush.json: line 3: it isn't JSON"), ("an empty file", {"osd.json": b""}, "osd.json: line 1: it isn't JSON"), ("no UTF-8", {"osd.json": b"\xff{}"}, "osd.json: it isn't JSON: byte 0"),
+    ("not JSON", {"crush.json": b"{\n\n oops"}, "crush.json: line 3: it isn't JSON"), ("an empty file", {"osd.json": b"\n"}, "osd.json: it is empty"), ("no UTF-8", {"osd.json": b"\xff{}"}, "osd.json: it isn't JSON: byte 0"),
     ("nested deeply", {"osd.json": b"[" * 100_000}, "osd.json: it isn't JSON"), ("a list", {"crush.json": b"[]"}, "crush.json isn't an object"), ("a number", {"osd.json": b"7"}, "osd.json isn't an object"),
     ("the wrong dump", {"crush.json": osd_dump()}, "it isn't what 'ceph osd crush dump"), ("the other wrong dump", {"osd.json": crush_dump()}, "it isn't what 'ceph osd dump"),
     ("a name that is a number", {"crush.json": changed(crush_dump(), "buckets", 1, "name", 7)}, "crush.json: buckets[1]: name isn't a text"), ("a weight that is a text", {"crush.json": changed(crush_dump(), "buckets", 1, "items", 0, "weight", "1")}, "crush.json: buckets[1]: items[0]: weight isn't a whole number"),
@@ -41,6 +41,10 @@ FILES = (
     ("a weight that isn't a number", {"osd.json": changed(osd_dump(), "osds", 3, "weight", None)}, "osd.json: osds[3]: weight isn't a number"), ("an id of a device that is too great", {"osd.json": changed(osd_dump(), "osds", 3, "osd", 65536)}, "ids are 0 to 65535"),
     ("a group that is none", {"osd.json": changed(osd_dump(), "pg_upmap_items", [{"pgid": "photos", "mappings": []}])}, "isn't the id of a group"), ("a dump of another cluster", {"osd.json": osd_dump(15)}, "osd.json has devices that crush.json lacks (osd.12, osd.13, osd.14)"),
     ("bytes that are a text", {"df.json": {"pools": [{"id": 1, "stats": {"bytes_used": "1", "stored": 1}}]}}, "df.json: pools[0]: stats: bytes_used isn't a whole number"), ("no stats", {"df.json": {"pools": [{"id": 1}]}}, "df.json: pools[0] has no field 'stats'"),
+    ("a weight of a thousand digits", {"osd.json": json.dumps(osd_dump()).replace('"weight": 1.0', '"weight": 1e999999999', 1).encode()}, "osd.json: osds[0]: weight isn't a number of at most 20 digits"), ("a ratio near 0", {"osd.json": json.dumps(osd_dump()).replace("0.95", "1e-999999999").encode()}, "osd.json: full_ratio isn't a number of at most"),
+    ("a ratio below 0", {"osd.json": {**osd_dump(), "nearfull_ratio": -1}}, "osd.json: nearfull_ratio is below 0"), ("a min_size below 0", {"osd.json": changed(osd_dump(), "pools", 0, "min_size", -2)}, "osd.json: pools[0]: min_size is below 0"),
+    ("bytes below 0", {"df.json": {"pools": [{"id": 1, "stats": {"bytes_used": -5, "stored": 1}}]}}, "df.json: pools[0]: stats: bytes_used is below 0"), ("room below 0", {"osd-df.json": {"nodes": [{"id": 0, "kb": 5, "kb_used": -1}]}}, "osd-df.json: nodes[0]: kb_used is below 0"),
+    ("a CRUSH weight below 0", {"crush.json": changed(crush_dump(), "buckets", 1, "items", 0, "weight", -1)}, "crush.json: buckets[1]: items[0]: weight is below 0"), ("bytes of another cluster", {"df.json": {"pools": [{"id": 1, "name": "mail", "stats": {"bytes_used": 5, "stored": 1}}]}}, "df.json has pool 1 as 'mail', and osd.json as 'photos': are they of one cluster"),
     ("nodes of nothing", {"osd-df.json": {"nodes": {}}}, "osd-df.json: nodes isn't a list"), ("NaN", {"osd.json": json.dumps(osd_dump()).replace("0.95", "NaN").encode()}, "osd.json: full_ratio isn't a number"),
     ("a bucket below itself", {"crush.json": changed(crush_dump(), "buckets", 1, "items", 0, "id", -1)}, "crush.json: the bucket default is below itself (default has host0 has default)"), ("a bucket that isn't there", {"crush.json": changed(crush_dump(), "buckets", 0, "items", 0, "id", -77)}, ""),
 )  # fmt: skip

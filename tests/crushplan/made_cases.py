@@ -37,7 +37,7 @@ def straw2(runner, folder):
     equals("its answer", said["answer"], "unknown: pool index can't be computed; of what can, no group moves.")
     said = runner.said("fail", folder, "--each", "host", status=2)
     equals("each host", {it["name"]: it["status"] for it in said["each"]}, {**{f"host{it}": 0 for it in range(4)}, **{f"fast{it}": 2 for it in range(3)}})
-    equals("its answer", said["answer"], "unknown: of 7 hosts 4 can fail, and every copy has room; of 3 not all can be computed.")
+    equals("its answer", said["answer"], "unknown: of 7 hosts 4 can fail, and every copy has a device; of 3 not all can be computed.")
     rows = [it.split() for it in runner.run("fail", folder, "--each", "host")[1].splitlines()]
     equals("which", {it[0]: it[-1] for it in rows if it and it[0].startswith("fast")}, {f"fast{it}": "part" for it in range(3)})
     equals("usage has the devices of pools that are computed", [it["device"] for it in runner.said("usage", folder, status=0)["rows"]], list(range(12)))

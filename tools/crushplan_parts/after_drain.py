@@ -1,5 +1,8 @@
 """What removing the drained devices from the map would move again, and what it moves where their
 CRUSH weight becomes 0 first, in the place of the drain."""
+import collections
+import fractions
+
 from .edits import purged, weighed
 from .placing import Note
 from .stages import Stages
@@ -28,10 +31,12 @@ class Steps:
 class AfterDrain:
     """`purge` is what removing the devices moves once they are drained; `weight_first` what their
     CRUSH weight of 0 moves in the place of the drain, and `then_purge` what removing them moves
-    then. `without` are the pools that aren't computed in it."""
+    then. `left` are the copies that stay on the devices by the weight of 0, and `too_full` the
+    devices that it fills past the backfill-full ratio, with the used part of their room. `without`
+    are the pools that aren't computed in it."""
 
     def __init__(self, plan, devices):
-        self.plan = plan
+        self.plan, self.devices = plan, devices
         by_class = {it.id for it in plan.pools.values() if any(plan.map.buckets[item].shadow for item in plan.map.rules[it.rule].takes() if item < 0)}
         # Ceph makes the trees of classes anew, which isn't computed here
         self.without = [it for it in plan.pools.values() if it.id in by_class and set(devices) & plan.reach(it)]
@@ -68,6 +73,24 @@ class AfterDrain:
         self.drained = sum(it.copies for it in changes if it.pool not in self.without)
         changes = [it for it in changes if it.pool.id in self.pools]
         self.purge, self.weight_first, self.then_purge = (self.steps(changes, it) for it in (purge, first, second))
+        self.gained = collections.Counter()  # entries of a device and a pool, by the weight of 0
+        for pool, _, old, new in self.weight_first.groups:
+            for sign, items in ((-1, old), (1, new)):
+                for device in items:
+                    self.gained[device, pool.id] += sign
+        # a uniform bucket picks a device of the weight 0 as any other
+        self.left = sum(it.before.entries.get(device, 0) + self.gained[device, it.pool.id] for it in changes for device in self.devices)
+        self.too_full = self.find_too_full(changes)
+
+    def find_too_full(self, changes):
+        ratio, found = self.plan.cluster.ratios.get("backfillfull_ratio"), []
+        for device, room in sorted(self.plan.cluster.rooms.items()):
+            bytes_ = total(it.bytes_of(self.gained[device, it.pool.id]) for it in changes if self.gained[device, it.pool.id])
+            if ratio is not None and bytes_ is not None and bytes_ > 0 and room.size > 0:
+                used = (room.used + bytes_) / fractions.Fraction(room.size)
+                if used > fractions.Fraction(ratio):
+                    found.append((device, used))
+        return found
 
     def steps(self, changes, moves):
         skipped = self.plan.whole_lists

@@ -40,15 +40,15 @@ STATUSES = {
     "check": "0 where every pool can be computed, 1 where some can, 2 where none can.",
     "usage": "0; 2 where it couldn't be computed.",
     "compare": "0; 1 where copies have no device afterwards (how full devices get isn't looked at); 2 where not all could be computed.",
-    "drain": "0 yes, every copy has room; 1 no; 2 where what isn't computed may concern the devices, and after an error.",
-    "fail": "0 yes, no I/O stops and every copy has room; 1 no; 2 where what isn't computed may concern the devices, and after an error.",
+    "drain": "0 yes, every copy has room; 1 no; 2 where what isn't computed may concern the devices, where files on room lack a part, and after an error.",
+    "fail": "0 yes, no I/O stops and every copy has room; 1 no; 2 where what isn't computed may concern the devices, where files on room lack a part, and after an error.",
     "upmap": "0; 1 where Ceph would remove some of the items again; 2 where not all could be computed.",
     "locate": "0; 2 where it couldn't be computed.",
 }
 MORE = {
     "check": "A removed device leaves a hole in a tree bucket. crushcalc refuses such a map (code M6), and crushplan fills each hole by a device of weight 0, with which every group lies as in Ceph.",
     "usage": "The share is what weights and reweights give an item of the copies that there are; 'bytes' are its part of the pools' bytes.",
-    "compare": "NEW is a text as 'crushtool -d' writes it, or a dump. The least is what the change of weights asks for, however a map places.",
+    "compare": "NEW is a text as 'crushtool -d' writes it, or a dump. The least is what the change of weights alone asks for; where a rule takes nearly as many hosts or racks as there are, less may move.",
     "drain": "The reweights of the devices become 0, as by 'ceph osd out'. Only groups of the impact lists of crushcalc can move: that no other group does is proved, while no reweight is raised, and map and upmap items stay. A copy has no room where it has no device that is up, or where its device gets more and is then past the backfill-full ratio.",
     "locate": "An OBJECT is a name, and never a group, which --group names: 'crushplan locate july --group 5.1f', as 'ceph pg map 5.1f'. 'crushplan usage DIR --groups' lists all groups.",
     "fail": "First what holds while the devices are down: groups with fewer copies than the pool's min_size, whose I/O stops. Then what their going out moves.",

@@ -13,6 +13,7 @@ from .read_text import read_text
 
 MAP_DUMP, MAP_TEXT, OSD_DUMP, DF, OSD_DF = "crush.json", "map.txt", "osd.json", "df.json", "osd-df.json"
 HASHPSPOOL, RJENKINS = 1, 2
+PRIMARIES = ("primary_temp", "pg_upmap_primaries")
 GROUP = re.compile(r"(\d{1,10})\.([0-9a-f]{1,8})")
 NONE = 2_147_483_647  # an item that is none, in Ceph's lists
 
@@ -70,12 +71,13 @@ class Cluster:
     states: dict
     pairs: dict  # upmap items: of each pool, of each group, its pairs of devices
     lists: dict  # whole upmap lists: of each pool, of each group, its devices
-    temporary: dict  # pg_temp and primary_temp: of each, of each pool, of each group, its devices
+    temporary: dict  # PRIMARIES and pg_temp: of each, of each pool, of each group, its devices
     affine: list  # devices of a primary affinity other than 1
     ratios: dict
     rooms: dict
     warnings: list
     described: bool = False  # whether the pools come from the command line
+    flags: tuple = ()  # of the whole cluster, as noout
 
 
 def fixed(value):
@@ -161,12 +163,13 @@ def read_osd_dump(cluster, dump, asked):
     for id_ in missing:
         cluster.states[id_] = State(0, False)
     read_upmaps(cluster, dump)
-    for name in ("pg_temp", "primary_temp"):
+    cluster.flags = tuple(dump.get("flags", str, "").split(","))
+    for name in ("pg_temp", *PRIMARIES):
         cluster.temporary[name] = groups_named(dump, name)
     cluster.affine = sorted(it.get("osd", int) for it in dump.each("osds") if it.has("primary_affinity") and fixed(it.at("primary_affinity").of_kind(Decimal)) != ONE)
     for name in ("full_ratio", "backfillfull_ratio", "nearfull_ratio"):
         if dump.has(name):
-            cluster.ratios[name] = dump.at(name).of_kind(Decimal)
+            cluster.ratios[name] = dump.size(name, Decimal)
 
 
 def pool_of(node):
@@ -176,7 +179,7 @@ def pool_of(node):
     flags = node.get("flags_names", str, "").split(",") if node.has("flags_names") else ["hashpspool"] * (node.get("flags", int, HASHPSPOOL) & HASHPSPOOL)
     size = node.get("size", int)
     return Pool(
-        node.get("pool", int), name, KINDS.get(kind, f"of type {kind}"), size, node.get("min_size", int, 1), node.get("crush_rule", int), pg_num, pgp_num,
+        node.get("pool", int), name, KINDS.get(kind, f"of type {kind}"), size, node.size("min_size", int, 1), node.get("crush_rule", int), pg_num, pgp_num,
         "hashpspool" in flags, node.get("object_hash", int, RJENKINS), target if target != (pg_num, pgp_num) else None,
     )  # fmt: skip
 
@@ -203,7 +206,7 @@ def groups_named(dump, name):
     found = {}
     for it in dump.each(name, ()):
         pool, group = group_of(it.get("pgid", str), f"{it.where}: pgid")
-        found.setdefault(pool, {})[group] = devices_in(it) if it.has("osds") else {it.get("osd", int)}
+        found.setdefault(pool, {})[group] = devices_in(it) if it.has("osds") else {it.get("primary_osd" if it.has("primary_osd") else "osd", int)}
     return found
 
 
@@ -231,7 +234,7 @@ def counts_by_pool(dump):
 
 def bytes_of(pool, stats, by_pool):
     """Returns what a pool takes on all its devices, or None where that isn't known."""
-    used = stats.get("bytes_used", int)
+    used = stats.size("bytes_used")
     if stats.has("stored") and by_pool:
         return used
     # otherwise, and before release 14, bytes_used is without copies
@@ -245,9 +248,12 @@ def read_bytes(cluster):
         for it in dump.each("pools"):
             pool = cluster.pools.get(it.get("id", int))
             if pool:
+                name = it.get("name", str, pool.name)
+                if name != pool.name and not cluster.described:
+                    raise Fault(f"{DF} has pool {pool.id} as {name!r}, and {OSD_DUMP} as {pool.name!r}: are they of one cluster, and of the same time?")
                 pool.bytes = bytes_of(pool, it.at("stats"), counts_by_pool(dump))
     if (cluster.folder / OSD_DF).exists():
         for it in opened(cluster.folder / OSD_DF, OSD_DF).each("nodes"):
             id_ = it.get("id", int)
             if id_ >= 0:
-                cluster.rooms[id_] = Room(it.get("kb_used", int) * 1024, it.get("kb", int) * 1024)
+                cluster.rooms[id_] = Room(it.size("kb_used") * 1024, it.size("kb") * 1024)

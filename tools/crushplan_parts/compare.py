@@ -81,11 +81,11 @@ def compare(plan, asked):
     changes = [Compared(plan, new.map, it, run.counted(usages[it.id]), stages.usages[it.id], moves[it.id]) for it in pools]
     moved, copies = sum(len(it.moves) for it in changes), sum(it.copies for it in changes)
     bytes_ = total(it.change.bytes_of(it.copies) for it in changes)
-    missing = sum(it.missing for it in changes)
+    missing, before = sum(it.missing for it in changes), sum(it.missing_before for it in changes)
     least = sum((it.least for it in changes), fractions.Fraction(0))
     unknown = bool(new.left_out or plan.left_out)
     status = 1 if missing else 2 if unknown or not pools else 0
-    sentence = f"{counted(moved, 'group')} {'moves' if moved == 1 else 'move'}, and {counted(copies, *COPY)} {'is' if copies == 1 else 'are'} written anew" + (f"; {counted(missing, *COPY)} {'has' if missing == 1 else 'have'} no device" if missing else "") + ("; not all can be computed" if unknown else "") + "."
+    sentence = f"{counted(moved, 'group')} {'moves' if moved == 1 else 'move'}, and {counted(copies, *COPY)} {'is' if copies == 1 else 'are'} written anew" + (f"; {counted(missing, *COPY)} {'has' if missing == 1 else 'have'} no device{' (as many as before)' if missing == before else f' ({before:,} before)' if before else ''}" if missing else "") + ("; not all can be computed" if unknown else "") + "."
     rows = [
         ("groups that move", f"{moved:,} of {sum(it.pg_num for it in pools):,}"), ("copies that are written anew", f"{copies:,}" + (f", {sized(bytes_)}" if bytes_ is not None else "")),
         ("the least that the change of weights asks for", f"{rounded(least.numerator, least.denominator, 1):,} copies"), ("copies without a device afterwards", f"{missing:,}" if missing else "none"),
@@ -100,7 +100,7 @@ def compare(plan, asked):
     if asked.groups:
         blocks.append(Table(("group", "before", "after", "copies"), [(pool.group_name(group), devices_text(old), devices_text(now), count) for pool, group, old, now, count in groups], "Groups that move:") if groups else "No group moves.")
     fields = {
-        "new": new.map.file, "moved": moved, "copies": copies, "bytes": whole(bytes_), "least": rounded(least.numerator, least.denominator, 2), "missing_copies": missing,
+        "new": new.map.file, "moved": moved, "copies": copies, "bytes": whole(bytes_), "least": rounded(least.numerator, least.denominator, 2), "missing_copies": missing, "missing_copies_before": before,
         "pools": [it.said() for it in changes], "hosts": [{"name": name, "lost": lost, "gained": gained} for name, lost, gained in hosts],
     }  # fmt: skip
     heads = ["pool", "group", "id", "before", "after", "primary_before", "primary_after", "copies"]
@@ -125,7 +125,7 @@ class Compared:
         self.pool, self.moves = pool, {group: it for group, it in moves.items() if group not in skipped}
         self.copies = sum(written_anew(pool, *it) for it in self.moves.values())
         self.change = PoolChange(pool, before, set(), [])
-        self.missing = pool.size * pool.pg_num - after.total()
+        self.missing, self.missing_before = (pool.size * pool.pg_num - it.total() for it in (after, before))
         old = Shares(plan.map, plan.map.rules[pool.rule], pool.size, plan.state)
         new = Shares(map_, map_.rules[pool.rule], pool.size, lambda it: plan.state(it) if it in plan.text.items else State())
         # the parts that devices gain, each of the copies that there are
@@ -133,7 +133,7 @@ class Compared:
         self.least = sum((it for it in gains if it > 0), fractions.Fraction(0)) * before.total()
 
     def said(self):
-        return {"pool": self.pool.id, "name": self.pool.name, "moved": len(self.moves), "copies": self.copies, "bytes": whole(self.change.bytes_of(self.copies)), "least": rounded(self.least.numerator, self.least.denominator, 2), "missing_copies": self.missing}
+        return {"pool": self.pool.id, "name": self.pool.name, "moved": len(self.moves), "copies": self.copies, "bytes": whole(self.change.bytes_of(self.copies)), "least": rounded(self.least.numerator, self.least.denominator, 2), "missing_copies": self.missing, "missing_copies_before": self.missing_before}
 
 
 def hosts_of(plan, map_, changes):

@@ -77,7 +77,7 @@ class CrushMap:
             return []
         seen.add(item)
         if item not in self.buckets:
-            return [item]
+            return [item] if item >= 0 else []
         return [device for inner, _ in self.buckets[item].items for device in self.below(inner, seen)]
 
     def buckets_below(self, item, found=None):

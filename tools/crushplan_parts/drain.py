@@ -1,9 +1,9 @@
 """`crushplan drain`: hosts, racks or devices out, on paper."""
 from .after_drain import AfterDrain
 from .changing import Start, pool_changes
-from .faults import counted
+from .faults import counted, some
 from .output import Answer, sized
-from .reports import Stay, groups_rows, groups_table, pools_table, status_of, summary_table, usage_rows, usage_table, verdict, warn_of_room
+from .reports import Stay, groups_rows, groups_table, pools_table, status_of, summary_table, usage_rows, usage_table, used_said, verdict, warn_of_flags, warn_of_room
 from .stages import Stages, states_after
 from .summary import Summary
 
@@ -25,12 +25,14 @@ def drain(plan, asked):
     later.take(changes, purge, first, second)
     summary, stay = Summary(plan, changes, states), Stay(plan, start, devices, changes)
     warn_of_room(plan, summary)
+    warn_of_flags(plan)
     if later.note():
         plan.notes.append(later.note())
     status = status_of(plan, summary, stay)
     fields = {
         "devices": devices, **summary.said(asked.groups), "stay": stay.said(),
-        "purge": later.purge.said(asked.groups), "weight_first": {**later.weight_first.said(asked.groups), "then_purge": later.then_purge.said(asked.groups)},
+        "purge": later.purge.said(asked.groups),
+        "weight_first": {**later.weight_first.said(asked.groups), "left": later.left, "past_backfillfull": [it for it, _ in later.too_full], "then_purge": later.then_purge.said(asked.groups)},
     }  # fmt: skip
     blocks = [summary_table(plan, summary, stay), pools_table(summary), usage_table(plan, summary, asked.by), purge_text(later, devices) if plan.pools else None]
     if asked.groups:
@@ -47,11 +49,22 @@ def purge_text(later, devices):
     first; nothing where neither is computed."""
     if later.without and not later.pools:
         return ""
-    first, other = later.compared()
     ids = " ".join(map(str, devices[:3])) + (" .." if len(devices) > 3 else "")
-    lines = [
+    first, _ = later.compared()
+    return "\n".join((
         f"Afterwards 'ceph osd purge' of {counted(len(devices), 'device')} ({ids}) would move {counted(later.purge.moved, 'group')} again: {counted(later.purge.copies, 'copy', 'copies')}{in_bytes(later.purge.bytes)}, in all {first:,}.",
-        f"With 'ceph osd crush reweight osd.N 0' in the place of the drain: {counted(later.weight_first.copies, 'copy', 'copies')}, and {later.then_purge.copies:,} by the purge, in all {other:,}: "
-        + ("that moves less." if other < first else "that moves as much." if other == first else "the drain moves less."),
-    ]
-    return "\n".join(lines)
+        weight_first_text(later),
+    ))  # fmt: skip
+
+
+def weight_first_text(later):
+    first, other = later.compared()
+    if later.left:
+        return f"'ceph osd crush reweight osd.N 0' is no way to drain them: {counted(later.left, 'copy', 'copies')} would stay on them, since a uniform bucket picks its devices by no weight."
+    uniform = [it.name for it in later.plan.map.buckets.values() if it.alg == "uniform" and not it.shadow and 0 < len({item for item, _ in it.items} & set(later.devices)) < len(it.items)]
+    also = f" (the other devices of {some(uniform, 3)}, {'a uniform bucket' if len(uniform) == 1 else 'uniform buckets'}, get that weight too)" if uniform else ""
+    text = f"With 'ceph osd crush reweight osd.N 0' in the place of the drain{also}: {counted(later.weight_first.copies, 'copy', 'copies')}, and {later.then_purge.copies:,} by the purge, in all {other:,}: "
+    text += ("that moves fewer copies" if other < first else "that moves as many" if other == first else "the drain moves fewer copies") + "."
+    if later.too_full:
+        text += f" But then {some([used_said(*it) for it in later.too_full], 3)}, past the backfill-full ratio."
+    return text

@@ -1,8 +1,8 @@
 """`crushplan fail`: hosts, racks or devices that go down, and later out."""
 from .changing import Start, pool_changes, short_now
-from .faults import Fault, counted
+from .faults import Fault, counted, some
 from .output import Answer, Progress, Table, devices_text, shown, sized
-from .reports import COPY, Stay, groups_rows, groups_table, listed, pools_table, status_of, summary_table, usage_rows, usage_table, verdict, warn_of_room
+from .reports import COPY, Stay, groups_rows, groups_table, listed, pools_table, status_of, summary_table, usage_rows, usage_table, verdict, warn_of_flags, warn_of_room
 from .shares import hundredths
 from .stages import Stages, states_after
 from .summary import Summary
@@ -78,6 +78,7 @@ def fail(plan, asked):
     it = Failure(plan, start, devices)
     stay = Stay(plan, start, devices, it.summary.changes)
     warn_of_room(plan, it.summary)
+    warn_of_outs(plan, asked.names)
     status = status_of(plan, it.summary, stay, it.down.stopped)
     fields = {"devices": devices, "down": it.down.said(asked.groups), "out": it.summary.said(asked.groups), "stay": stay.said()}
     blocks = [it.down.table(it.summary.groups) if plan.pools else None, it.down.pools_table(), summary_table(plan, it.summary, stay, "Once they are out:", devices), pools_table(it.summary), usage_table(plan, it.summary, asked.by)]
@@ -98,6 +99,15 @@ def rows_of(plan, it):
         yield ["out", *row]
 
 
+def warn_of_outs(plan, names):
+    """Warns where Ceph marks no device of these names out by itself."""
+    warn_of_flags(plan, "noout")
+    rack = next((number for number, name in plan.map.types.items() if name == "rack"), None)
+    wide = [it.name for it in plan.map.buckets.values() if rack is not None and it.type >= rack and it.name in names]
+    if wide:
+        plan.cluster.warnings.append(f"Ceph marks out by itself no whole rack, nor what is above racks (mon_osd_down_out_subtree_limit, unless it was set): {some(wide)}")
+
+
 def fail_each(plan, asked):
     """Answers what each bucket of a type would cost, the worst first."""
     type_ = plan.tree.type_number(asked.each)
@@ -116,24 +126,27 @@ def fail_each(plan, asked):
     finally:
         progress.end()
     warn_of_room(plan, found[0][1].summary)
-    found.sort(key=lambda it: (-it[1].down.stopped, -it[1].summary.missing, -it[1].summary.copies, plan.map.name_of(it[0])))
+    warn_of_outs(plan, [plan.map.name_of(it) for it in items])
+    found.sort(key=lambda it: (-it[1].down.stopped, -it[1].summary.missing, -len(it[1].summary.past["backfillfull_ratio"]), -it[1].summary.copies, plan.map.name_of(it[0])))
     statuses = [status_of(plan, it.summary, stay, it.down.stopped) for _, it, stay in found]
     status = 1 if 1 in statuses else 2 if 2 in statuses else 0
     name = asked.each
     rows = [each_said(plan, *it, own) for it, own in zip(found, statuses)]
-    table = [(it["name"], it["devices"], it["below_min_size"], it["short_down"], it["missing_copies"], it["moved"], it["copies"], sized(it["bytes"]), each_fullest(it)) for it in rows]
-    heads = (name, "devices", "stops", "short", "no room", "move", "copies", "bytes", "fullest")
+    table = [(it["name"], it["devices"], it["below_min_size"], it["short_down"], it["missing_copies"], it["too_full"], it["moved"], it["copies"], sized(it["bytes"]), each_fullest(it)) for it in rows]
+    heads = (name, "devices", "stops", "short", "no device", "too full", "move", "copies", "bytes", "fullest")
     if any(stay.is_unknown() for _, _, stay in found):
         heads = (*heads, "computed")
         table = [(*row, "in part" if stay.is_unknown() else "all") for row, (_, _, stay) in zip(table, found)]
-    own = [list(rows[0])[:-1] + ["fullest", "fullest_percent"]] + [[*list(it.values())[:-1], it["fullest"] and it["fullest"]["name"], it["fullest"] and it["fullest"]["percent_after"]] for it in rows]
+    own = [list(rows[0])[:-1] + ["fullest", "fullest_percent", "fullest_used"]] + [[*list(it.values())[:-1], *((it["fullest"] or {}).get(key) for key in ("name", "percent_after", "used_after"))] for it in rows]
     of = "its percent of its share" if all(it["fullest"] is None or it["fullest"]["used_after"] is None for it in rows) else "how much of its room is used"
-    text = f"stops: groups below min_size while it is down, whose I/O stops; short: groups below size then; no room:\ncopies that have no device once it is out; move, copies: groups that then move, and copies written anew;\nfullest: the fullest device then, and {of}."
-    return Answer(status, each_sentence(plan, name, statuses), {"type": name, "each": rows}, [Table(heads, table), text] if plan.pools else [], own)
+    text = f"stops: groups below min_size while it is down, whose I/O stops; short: groups below size then;\nno device: copies that have none once it is out; too full: devices that then get more and are past the\nbackfill-full ratio; move, copies: groups that then move, and copies written anew;\nfullest: the fullest device then, and {of}."
+    has = "room" if all(it.summary.knows_room() for _, it, _ in found) else "a device"
+    return Answer(status, each_sentence(plan, name, statuses, has), {"type": name, "each": rows}, [Table(heads, table), text] if plan.pools else [], own)
 
 
-def each_sentence(plan, name, statuses):
-    """Returns the answer in one sentence, from the status of each bucket of a type."""
+def each_sentence(plan, name, statuses, has):
+    """Returns the answer in one sentence, from the status of each bucket of a type; `has` is what
+    every copy has where the answer is yes."""
     all_, bad, unknown = counted(len(statuses), name), statuses.count(1), statuses.count(2)
     if not plan.pools:
         return "unknown: no pool can be computed."
@@ -141,8 +154,8 @@ def each_sentence(plan, name, statuses):
     if bad:
         return f"no: of {all_} {bad:,} can't fail without I/O that stops or copies that have no room{rest}"
     if unknown:
-        return f"unknown: of {all_} {len(statuses) - unknown:,} can fail, and every copy has room{rest}"
-    return f"yes: {'each' if len(statuses) > 1 else 'the one'} of {all_} can fail, and every copy has room."
+        return f"unknown: of {all_} {len(statuses) - unknown:,} can fail, and every copy has {has}{rest}"
+    return f"yes: {'each' if len(statuses) > 1 else 'the one'} of {all_} can fail, and every copy has {has}."
 
 
 def each_fullest(it):
@@ -157,5 +170,5 @@ def each_said(plan, item, it, stay, status):
     said = summary.said(False)
     return {
         "name": plan.map.name_of(item), "devices": len(it.devices), "below_min_size": it.down.stopped, "short_down": it.down.short, "short_groups": summary.short,
-        "missing_copies": summary.missing, "moved": len(summary.moves), "can_move": summary.can_move, "copies": summary.copies, "bytes": said["bytes"], "status": status, "fullest": said["fullest"],
+        "missing_copies": summary.missing, "too_full": len(summary.past["backfillfull_ratio"]), "moved": len(summary.moves), "can_move": summary.can_move, "copies": summary.copies, "bytes": said["bytes"], "status": status, "fullest": said["fullest"],
     }  # fmt: skip

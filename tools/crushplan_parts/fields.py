@@ -8,6 +8,7 @@ from .faults import Fault
 
 KINDS = {int: "a whole number", str: "a text", list: "a list", dict: "an object", decimal.Decimal: "a number"}
 REQUIRED = object()
+MOST_DIGITS = 20
 
 
 def load(path):
@@ -20,6 +21,8 @@ def load(path):
         raise Fault(f"{path}: {error.strerror or error}") from None
     except UnicodeDecodeError as error:
         raise Fault(f"{path}: it isn't JSON: byte {error.start} is no UTF-8") from None
+    if not text.strip():
+        raise Fault(f"{path}: it is empty")
     try:
         return json.loads(text, parse_float=decimal.Decimal)
     except json.JSONDecodeError as error:
@@ -41,8 +44,8 @@ class Node:
             return decimal.Decimal(value)
         if not isinstance(value, kind) or isinstance(value, bool):
             raise Fault(f"{self.where} isn't {KINDS[kind]}")
-        if kind is decimal.Decimal and not value.is_finite():
-            raise Fault(f"{self.where} isn't a number")
+        if kind is decimal.Decimal and not (value.is_finite() and (not value or abs(value.adjusted()) < MOST_DIGITS)):
+            raise Fault(f"{self.where} isn't a number of at most {MOST_DIGITS} digits")
         return value
 
     def has(self, name):
@@ -59,6 +62,13 @@ class Node:
         if default is not REQUIRED and not self.has(name):
             return default
         return self.at(name).of_kind(kind)
+
+    def size(self, name, kind=int, default=REQUIRED):
+        """Returns the value of a member that isn't below 0."""
+        value = self.get(name, kind, default)
+        if value < 0:
+            raise Fault(f"{self.where}: {name} is below 0")
+        return value
 
     def each(self, name, default=REQUIRED):
         """Yields the members of a list that is a member."""

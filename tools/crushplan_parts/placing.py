@@ -168,9 +168,12 @@ class Plan:
                 self.notes.append(Note("split", f"pool {pool.name} is being split or merged (pg_num {pool.pg_num} on its way to {pool.split_to[0]}, pgp_num {pool.pgp_num} to {pool.split_to[1]}): it is computed as it is now, and its groups move by themselves", pools=[pool.id], devices=self.devices_of(pool), open_=False))
             if pool.object_hash != 2:
                 self.notes.append(Note("object hash", f"pool {pool.name} has another object hash than rjenkins: where its groups lie is computed, where its objects lie isn't", pools=[pool.id], devices=self.devices_of(pool), open_=False))
+            if pool.bytes is not None and pool.pg_num & (pool.pg_num - 1):
+                self.notes.append(Note("pg_num", f"pool {pool.name} has {pool.pg_num} groups, which is no power of two: some of them have twice the objects of others, and bytes are said here as if all had as many", pools=[pool.id], devices=self.devices_of(pool), open_=False))
         self.note_groups("pg_upmap", cluster.lists, "whole upmap lists (pg_upmap)", "where they lie isn't computed: they count where their rule puts them, and stand in no list of moves")
         for kind in ("pg_temp", "primary_temp"):
             self.note_groups(kind, cluster.temporary.get(kind, {}), f"a temporary {'list' if kind == 'pg_temp' else 'primary'} ({kind})", "what is said is where they lie once that is over")
+        self.note_groups("pg_upmap_primaries", cluster.temporary.get("pg_upmap_primaries", {}), "a primary that was set (pg_upmap_primaries)", "the primary that is said is the one without it")
         if cluster.affine:
             pools = [it.id for it in self.pools.values() if self.map.reached(self.map.rules[it.rule]) & set(cluster.affine)]
             self.notes.append(Note("primary affinity", f"{self.names_of(cluster.affine)} {'has' if len(cluster.affine) == 1 else 'have'} a primary affinity other than 1: in {self.pools_text(pools)} the primaries of their groups, and the order of the lists of replicated pools, are others in the cluster", pools=pools, devices=cluster.affine, open_=False))
@@ -227,7 +230,8 @@ class Plan:
 
     def answer(self, *runs):
         """Has runs answered, side by side where that can be."""
-        for run, replies in zip(runs, at_once(self.client, [it.requests for it in runs])):
+        asked = [it for it in runs if it.pools]  # without pools nothing is asked of the map, which crushcalc may refuse
+        for run, replies in zip(asked, at_once(self.client, [it.requests for it in asked])):
             run.take(replies)
         return runs
 

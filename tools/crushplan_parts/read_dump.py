@@ -33,7 +33,7 @@ def bucket_of(node):
     id_, name = node.get("id", int), node.get("name", str)
     if id_ >= 0:
         raise Fault(f"{node.where}: the id of a bucket is below 0")
-    items = [(it.get("pos", int, place), it.get("id", int), it.get("weight", int)) for place, it in enumerate(node.each("items"))]
+    items = [(it.get("pos", int, place), it.get("id", int), it.size("weight")) for place, it in enumerate(node.each("items"))]
     items = [(item, weight) for _, item, weight in sorted(items, key=lambda it: it[0])]
     shadow = name.split("~", 1)[1] if "~" in name else None
     return Bucket(id_, name, node.get("type_id", int), node.get("alg", str), node.get("hash", str, "rjenkins1"), items, shadow)

@@ -9,7 +9,8 @@ from .summary import whole
 
 MOST_ROWS = 40  # devices in a table of usage; where there are more, hosts are shown
 COPY = ("copy", "copies")
-NO_ROOM = "how full devices get isn't looked at (that takes df.json, osd-df.json and the ratios of osd.json): a copy has room where it has a device"
+HOLDING = ("norebalance", "nobackfill", "norecover")
+NO_ROOM = "how full devices get isn't looked at (that takes df.json, osd-df.json and the ratios of osd.json)"
 
 
 class Stay:
@@ -45,25 +46,33 @@ class Stay:
 
 def status_of(plan, summary, stay, stopped=0):
     """Returns the exit status: 1 where a copy has no room, a device keeps some, or I/O stops; 2
-    where what isn't computed may have to do with it."""
+    where what isn't computed may have to do with it, or files on room lack a part of it."""
     if summary.changes and (not summary.has_room() or stay.keeping or stopped):
         return 1
-    return 2 if stay.is_unknown() or not plan.pools else 0
+    return 2 if stay.is_unknown() or not plan.pools or summary.room_gap() else 0
 
 
 def warn_of_room(plan, summary):
     """Warns where no device counts as full, since the files don't say how full they are."""
-    if summary.changes and not summary.knows_room():
+    if summary.changes and not summary.looks_at_room():
         plan.cluster.warnings.append(NO_ROOM)
+
+
+def warn_of_flags(plan, *more):
+    """Warns of flags of the cluster, while which Ceph doesn't do by itself what is computed."""
+    flags = [it for it in plan.cluster.flags if it in (*HOLDING, *more)]
+    if flags:
+        plan.cluster.warnings.append(f"osd.json has the {'flag' if len(flags) == 1 else 'flags'} {some(flags)}: until Ceph is without {'it' if len(flags) == 1 else 'them'}, it doesn't do all of this")
 
 
 def verdict(summary, stay, status, stopped=0):
     """Returns the answer in one sentence."""
     moved = f"{counted(len(summary.moves), 'group')} {'moves' if len(summary.moves) == 1 else 'move'}" if summary.moves else "no group moves"
     if status == 2:
-        return f"unknown: {stay.unknown_text()} can't be computed; of what can, {moved}." if summary.changes else "unknown: no pool can be computed."
+        why = ([f"{stay.unknown_text()} can't be computed"] if stay.is_unknown() else []) + ([summary.room_gap()] if summary.room_gap() else [])
+        return f"unknown: {'; '.join(why)}; of what can, {moved}." if summary.changes else "unknown: no pool can be computed."
     if status == 0:
-        return f"yes: {moved}, and every copy has room."
+        return f"yes: {moved}, and every copy has {'room' if summary.knows_room() else 'a device'}."
     why = []
     if stopped:
         why.append(f"{counted(stopped, 'group')} {'has' if stopped == 1 else 'have'} fewer copies than min_size while the devices are down, so {'its' if stopped == 1 else 'their'} I/O stops")
@@ -74,13 +83,19 @@ def verdict(summary, stay, status, stopped=0):
         why.append(f"{counted(summary.missing, *COPY)} of {'pool' if len(lacking) == 1 else 'the pools'} {pools} {'has' if summary.missing == 1 else 'have'} no room{before}")
     if summary.past["backfillfull_ratio"]:
         why.append(f"{some([shown_used(it) for it in summary.past['backfillfull_ratio']], 3)}, past the backfill-full ratio")
+    if summary.room_gap():
+        why.append(summary.room_gap())
     if stay.keeping:
         why.append(f"{some(stay.names, 3)} {'keeps' if len(stay.names) == 1 else 'keep'} {counted(sum(stay.keeping.values()), *COPY)}: a rule takes it by name")
     return "no: " + "; ".join(why) + f"; {moved}."
 
 
 def shown_used(it):
-    return f"osd.{it.id} would be {rounded(it.used_after.numerator * 100, it.used_after.denominator, 1)}% full"
+    return used_said(it.id, it.used_after)
+
+
+def used_said(device, used):
+    return f"osd.{device} would be {rounded(used.numerator * 100, used.denominator, 1)}% full"
 
 
 def summary_table(plan, summary, stay, title=None, down=()):

@@ -23,7 +23,8 @@ class Stages:
         return run
 
     def keeper(self):
-        return Keeper(self.map, lambda device: self.changed.get(device) or self.plan.state(device))
+        # a device that a changed map brings counts as in and up, as it does for placement
+        return Keeper(self.map, lambda device: self.changed.get(device) or (self.plan.state(device) if device in self.plan.text.items else State()))
 
     def remove_pairs(self, pool, raws):
         """Takes away the pairs that the monitors don't keep; `raws` are raw lists by group. Returns

@@ -2,6 +2,7 @@
 how full devices are then. Sums and differences of what crushcalc answers, in whole numbers."""
 import fractions
 
+from .faults import some
 from .shares import Expected, Shares, percent, rounded
 
 
@@ -126,10 +127,26 @@ class Summary:
             return []
         return [it for it in self.devices if it.used_after is not None and it.used_after > fractions.Fraction(ratio) and it.used_after > it.used_before]
 
+    def looks_at_room(self):
+        """Returns whether the files say how full devices are, what pools take, and from which ratio
+        on Ceph writes no more copies to a device. Otherwise no device counts as full."""
+        cluster = self.plan.cluster
+        return "backfillfull_ratio" in cluster.ratios and bool(cluster.rooms) and any(it.bytes is not None for it in cluster.pools.values())
+
+    def room_gap(self):
+        """Returns what the files don't say of how full devices get, in words, or None; None too
+        where they say nothing at all of it."""
+        gaining = [it for it in self.devices if it.after > it.before]
+        if not self.looks_at_room() or all(it.used_after is not None for it in gaining):
+            return None
+        pools = [it.pool.name for it in self.changes if it.pool.bytes is None]
+        if pools:
+            return f"df.json doesn't say what {'pool' if len(pools) == 1 else 'the pools'} {some(pools, 3)} {'takes' if len(pools) == 1 else 'take'}, and so not how full devices get"
+        return f"osd-df.json doesn't say how full {some([f'osd.{it.id}' for it in gaining if it.used_after is None], 3)} gets"
+
     def knows_room(self):
-        """Returns whether the files say how full devices are, and from which ratio on Ceph writes
-        no more copies to one. Otherwise no device counts as full."""
-        return "backfillfull_ratio" in self.plan.cluster.ratios and any(it.used_after is not None for it in self.devices)
+        """Returns whether the files say how full each device gets that gets more."""
+        return self.looks_at_room() and not self.room_gap() or not any(it.after > it.before for it in self.devices)
 
     def has_room(self):
         """Returns whether every copy has room: a device, which isn't past the ratio from which on

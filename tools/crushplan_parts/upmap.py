@@ -4,7 +4,7 @@ import re
 import sys
 
 from .cluster import text_of
-from .faults import Fault, counted
+from .faults import Fault, counted, some
 from .output import Answer, Table, devices_text, sized
 from .reports import COPY, listed
 from .shares import percent
@@ -87,11 +87,12 @@ def upmap(plan, asked):
     moved, copies = sum(len(it.moves) for it in changes), sum(it.copies for it in changes)
     bytes_ = total(it.bytes_of(it.copies) for it in changes)
     unknown = [it for pool, own in wanted.items() for it in own if it in plan.whole_lists.get(pool, ())]
-    status = 1 if refused else 2 if unknown else 0
-    sentence = ("no: " if refused else "unknown: " if unknown else "yes: ") + f"{counted(moved, 'group')} {'moves' if moved == 1 else 'move'}, and {counted(copies, *COPY)} {'is' if copies == 1 else 'are'} written anew"
+    cut = [it for it in rows if not it["breaks"] and it["kept"] != it["pairs"]]
+    status = 1 if refused or cut else 2 if unknown else 0
+    sentence = ("no: " if refused or cut else "unknown: " if unknown else "yes: ") + f"{counted(moved, 'group')} {'moves' if moved == 1 else 'move'}, and {counted(copies, *COPY)} {'is' if copies == 1 else 'are'} written anew"
     if not rows:
         sentence = f"yes: no group moves, since {'standard input' if asked.file == '-' else asked.file} has no commands"
-    sentence += (f"; {counted(len(refused), 'group')} would break the rule, and Ceph removes such items" if refused else "") + (f"; of {counted(len(idle), 'group')} a pair has no effect" if idle else "") + "."
+    sentence += (f"; {counted(len(refused), 'group')} would break the rule, and Ceph removes such items" if refused else "") + (f"; of {counted(len(cut), 'group')} Ceph removes pairs again, and keeps {some([it['id'] + ' ' + pairs_text(it['kept']) for it in cut], 3)}" if cut else "") + (f"; of {counted(len(idle), 'group')} a pair has no effect" if idle else "") + "."
     blocks = [Table(("group", "pairs", "before", "after", "copies", "remark"), [(it["id"], pairs_text(it["pairs"]), devices_text(it["before"]), devices_text(it["after"]), it["copies"], "; ".join(([it["breaks"]] if it["breaks"] else []) + it["remarks"])) for it in rows]) if rows else ""]
     even = evenness(plan, changes)
     blocks.append(even_text(even) + (f" Bytes: {sized(bytes_)}." if bytes_ is not None else ""))
