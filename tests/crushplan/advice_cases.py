@@ -149,6 +149,29 @@ def new_devices(runner, folder):
     wants(said["answer"].endswith(f"; {lacking} copies have no device (as many as before)."), said["answer"])
 
 
+def filled_by_a_map(runner, folder):
+    """A map without a host fills the others: those whose weight stays are looked at."""
+    crush, less = crush_dump(hosts=5), crush_dump(hosts=4)
+    less["buckets"][1]["items"][0]["weight"], less["buckets"][0]["items"][0]["weight"] = 2 * ONE, 4 * ONE
+    less["devices"] = crush["devices"]
+    before, after = (entries(Placed(text_of(it), **PHOTOS)) for it in (crush, less))
+    gains = sorted(range(1, 12), key=lambda it: before[it] - after[it])
+    most = gains[0]
+    wants(after[most] > before[most] and after[0] > before[0], "nothing is filled")
+    (folder / "new.json").write_text(json.dumps(less))
+    sizes = {0: 1024, most: int(EACH * (after[most] - 0.5) / 0.9)}
+    for left_out, status, past in (((), 1, [most]), ((most,), 0, [])):
+        write(folder, crush, osd_dump(15), df_json=df("photos"), osd__df_json=osd_df(before, sizes, left_out))
+        said, text = runner.said("compare", folder, folder / "new.json", status=status), runner.run("compare", folder, folder / "new.json")[1]
+        equals("past the ratio", said["past_backfillfull"], past)
+        equals("in the sentence", f"; osd.{most} would be " in text.splitlines()[0], bool(past))
+    full = {it: (before[it] * EACH // 1024 * 1024 + (after[it] - before[it]) * EACH) / (before[it] * EACH * 100 // 1024 * 1024) for it in range(1, 12) if it != most}
+    wants(said["fullest"]["device"] == max(full, key=lambda it: (full[it], -it)) and abs(said["fullest"]["used_after"] - max(full.values())) < 0.0001, (said["fullest"], full))
+    (folder / "df.json").unlink()
+    said = runner.said("compare", folder, folder / "new.json", status=0)
+    equals("without df.json", (said["fullest"], said["past_backfillfull"]), (None, []))
+
+
 def by_itself(runner, folder):
     """What Ceph doesn't do by itself is said: by flags, of whole racks, of primaries that were set,
     and that not all groups have as many bytes."""
@@ -184,5 +207,5 @@ def old_tunables(runner, folder):
 
 
 def cases():
-    found = (uniform, weight_first, gaps, too_full, lost_shadows, cut_pairs, new_devices, by_itself, old_tunables)
+    found = (uniform, weight_first, gaps, too_full, lost_shadows, cut_pairs, new_devices, filled_by_a_map, by_itself, old_tunables)
     return [(it.__name__, it) for it in found]

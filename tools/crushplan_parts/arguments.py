@@ -39,7 +39,7 @@ STATUSES = {
     "fetch": "0 where the map and the pools were written, 2 where they weren't.",
     "check": "0 where every pool can be computed, 1 where some can, 2 where none can.",
     "usage": "0; 2 where it couldn't be computed.",
-    "compare": "0; 1 where copies have no device afterwards (how full devices get isn't looked at); 2 where not all could be computed.",
+    "compare": "0; 1 where copies have no device afterwards, or a device whose weight stays gets more and is then past the backfill-full ratio; 2 where not all could be computed.",
     "drain": "0 yes, every copy has room; 1 no; 2 where what isn't computed may concern the devices, where files on room lack a part, and after an error.",
     "fail": "0 yes, no I/O stops and every copy has room; 1 no; 2 where what isn't computed may concern the devices, where files on room lack a part, and after an error.",
     "upmap": "0; 1 where Ceph would remove some of the items again; 2 where not all could be computed.",

@@ -4,18 +4,20 @@ import pathlib
 
 from .cluster import State, text_of
 from .crush_map import mark_holes
-from .faults import Fault, counted
+from .faults import Fault, counted, some
 from .output import Answer, Table, devices_text, sized
 from .placing import Note
 from .read_dump import read_dump
 from .read_text import read_text
-from .reports import COPY, listed
+from .reports import COPY, listed, used_said
 from .service import change
-from .shares import Shares, rounded
+from .shares import Shares, hundredths, rounded
 from .stages import Stages
-from .summary import PoolChange, total, whole, written_anew
+from .summary import PoolChange, ratio_said, total, whole, written_anew
 from .tree import Tree
 from .write_text import Text
+
+ROUNDED = 33  # 65536ths by which rounding to three decimals changes a weight
 
 
 def read_new(plan, path):
@@ -84,12 +86,14 @@ def compare(plan, asked):
     missing, before = sum(it.missing for it in changes), sum(it.missing_before for it in changes)
     least = sum((it.least for it in changes), fractions.Fraction(0))
     unknown = bool(new.left_out or plan.left_out)
-    status = 1 if missing else 2 if unknown or not pools else 0
-    sentence = f"{counted(moved, 'group')} {'moves' if moved == 1 else 'move'}, and {counted(copies, *COPY)} {'is' if copies == 1 else 'are'} written anew" + (f"; {counted(missing, *COPY)} {'has' if missing == 1 else 'have'} no device{' (as many as before)' if missing == before else f' ({before:,} before)' if before else ''}" if missing else "") + ("; not all can be computed" if unknown else "") + "."
+    full = Filled(plan, new.map, changes)
+    status = 1 if missing or full.past["backfillfull_ratio"] else 2 if unknown or not pools else 0
+    sentence = f"{counted(moved, 'group')} {'moves' if moved == 1 else 'move'}, and {counted(copies, *COPY)} {'is' if copies == 1 else 'are'} written anew" + (f"; {counted(missing, *COPY)} {'has' if missing == 1 else 'have'} no device{' (as many as before)' if missing == before else f' ({before:,} before)' if before else ''}" if missing else "") + (f"; {full.past_text('backfillfull_ratio')}, past the backfill-full ratio" if full.past["backfillfull_ratio"] else "") + ("; not all can be computed" if unknown else "") + "."
     rows = [
         ("groups that move", f"{moved:,} of {sum(it.pg_num for it in pools):,}"), ("copies that are written anew", f"{copies:,}" + (f", {sized(bytes_)}" if bytes_ is not None else "")),
         ("the least that the change of weights asks for", f"{rounded(least.numerator, least.denominator, 1):,} copies"), ("copies without a device afterwards", f"{missing:,}" if missing else "none"),
     ]  # fmt: skip
+    rows += full.rows()
     if new.map.rounded and not plan.map.rounded:
         plan.notes.append(Note("rounded", f"{new.map.file} has weights with three decimals, and {plan.map.file} exact ones: what this rounding alone moves is part of the answer, as it would be in the cluster", open_=False))
     hosts = hosts_of(plan, new.map, changes)
@@ -100,7 +104,7 @@ def compare(plan, asked):
     if asked.groups:
         blocks.append(Table(("group", "before", "after", "copies"), [(pool.group_name(group), devices_text(old), devices_text(now), count) for pool, group, old, now, count in groups], "Groups that move:") if groups else "No group moves.")
     fields = {
-        "new": new.map.file, "moved": moved, "copies": copies, "bytes": whole(bytes_), "least": rounded(least.numerator, least.denominator, 2), "missing_copies": missing, "missing_copies_before": before,
+        "new": new.map.file, "moved": moved, "copies": copies, "bytes": whole(bytes_), "least": rounded(least.numerator, least.denominator, 2), "missing_copies": missing, "missing_copies_before": before, **full.said(),
         "pools": [it.said() for it in changes], "hosts": [{"name": name, "lost": lost, "gained": gained} for name, lost, gained in hosts],
     }  # fmt: skip
     heads = ["pool", "group", "id", "before", "after", "primary_before", "primary_after", "copies"]
@@ -125,6 +129,7 @@ class Compared:
         self.pool, self.moves = pool, {group: it for group, it in moves.items() if group not in skipped}
         self.copies = sum(written_anew(pool, *it) for it in self.moves.values())
         self.change = PoolChange(pool, before, set(), [])
+        self.after = after
         self.missing, self.missing_before = (pool.size * pool.pg_num - it.total() for it in (after, before))
         old = Shares(plan.map, plan.map.rules[pool.rule], pool.size, plan.state)
         new = Shares(map_, map_.rules[pool.rule], pool.size, lambda it: plan.state(it) if it in plan.text.items else State())
@@ -134,6 +139,48 @@ class Compared:
 
     def said(self):
         return {"pool": self.pool.id, "name": self.pool.name, "moved": len(self.moves), "copies": self.copies, "bytes": whole(self.change.bytes_of(self.copies)), "least": rounded(self.least.numerator, self.least.denominator, 2), "missing_copies": self.missing, "missing_copies_before": self.missing_before}
+
+
+class Filled:
+    """How full the devices get that have one weight in both maps: that of another weight may be
+    another device by then, and of a new one the files know no room."""
+
+    def __init__(self, plan, map_, changes):
+        self.plan, self.used = plan, {}
+        weights, ratios = [weights_of(it) for it in (plan.map, map_)], plan.cluster.ratios
+        for device, room in sorted(plan.cluster.rooms.items()):
+            gained = total(it.change.bytes_of(it.after.entries.get(device, 0) - it.change.before.entries.get(device, 0)) for it in changes)
+            old, new = (it.get(device) for it in weights)
+            if gained is not None and room.size > 0 and old and new and abs(old - new) <= ROUNDED:
+                self.used[device] = fractions.Fraction(room.used, room.size), max(room.used + gained, 0) / fractions.Fraction(room.size)
+        self.fullest = max(self.used, key=lambda it: (self.used[it][1], -it), default=None)
+        self.past = {name: [it for it, (old, new) in self.used.items() if name in ratios and new > old and new > fractions.Fraction(ratios[name])] for name in ("nearfull_ratio", "backfillfull_ratio")}
+
+    def past_text(self, name):
+        return some([used_said(it, self.used[it][1]) for it in self.past[name]], 3)
+
+    def rows(self):
+        if self.fullest is None:
+            return []
+        near = self.plan.cluster.ratios.get("nearfull_ratio")
+        ratio = f"; near-full is {hundredths(near)}%" if near is not None else ""
+        found = [("fullest of the devices whose weight stays", f"{self.plan.map.name_of(self.fullest)} ({self.plan.tree.host(self.fullest)}): {hundredths(ratio_said(self.used[self.fullest][1]))}% used{ratio}")]
+        return found + ([("past the near-full ratio", self.past_text("nearfull_ratio"))] if self.past["nearfull_ratio"] else [])
+
+    def said(self):
+        old, new = self.used.get(self.fullest, (None, None))
+        fullest = self.fullest if self.fullest is None else {"device": self.fullest, "used_before": ratio_said(old), "used_after": ratio_said(new)}
+        return {"fullest": fullest, **{f"past_{name.removesuffix('_ratio')}": self.past[name] for name in self.past}}
+
+
+def weights_of(map_):
+    """Returns the weight of each device, in all buckets but the trees of classes."""
+    found = {}
+    for bucket in map_.buckets.values():
+        for item, weight in bucket.items if not bucket.shadow else ():
+            if item is not None and item >= 0:
+                found[item] = found.get(item, 0) + weight
+    return found
 
 
 def hosts_of(plan, map_, changes):
