@@ -54,7 +54,7 @@ export function answerRow(cluster, all) {
     ], "answer");
 }
 
-// The answer in one sentence: whether every copy has room, and how many groups move. `stopped` is
+// The answer in one sentence: whether every copy has a device, and how many groups move. `stopped` is
 // how many groups stop while devices are down, `keeping` how many copies stay on devices that a
 // rule takes by name, `broken` how many groups have exceptions that break their rule, `unknown` how
 // much isn't computed that may have to do with it.
@@ -63,13 +63,13 @@ export function verdict(found, all, { stopped = 0, keeping = 0, broken = 0, unkn
     const before = all.missingBefore === all.missing ? " (as many as before)" : all.missingBefore ? ` (${count(all.missingBefore)} before)` : "";
     const why = [
         stopped && `${many(stopped, "group")} ${has(stopped)} fewer copies than min_size while the devices are down, so ${stopped === 1 ? "its" : "their"} I/O stops`,
-        all.missing && `${many(all.missing, "copy", "copies")} of ${lacking.length === 1 ? "pool" : "the pools"} ${some(lacking, 3)} ${has(all.missing)} no room${before}`,
+        all.missing && `${many(all.missing, "copy", "copies")} of ${lacking.length === 1 ? "pool" : "the pools"} ${some(lacking, 3)} ${has(all.missing)} no device${before}`,
         broken && `${many(broken, "group")} would break the rule, and Ceph removes such items`,
         keeping && `${many(keeping, "copy", "copies")} ${keeping === 1 ? "stays" : "stay"}: a rule takes the device by name`,
     ].filter(Boolean);
     if (why.length) return el("p", { class: "verdict bad", id: "verdict" }, el("strong", {}, "No"), `: ${why.join("; ")}; ${moved}.`);
     if (unknown) return el("p", { class: "verdict unknown", id: "verdict" }, el("strong", {}, "Unknown"), `: not all of it can be computed; of what can, ${moved}.`);
-    return el("p", { class: "verdict good", id: "verdict" }, el("strong", {}, "Yes"), `: ${all.moved ? moved : "no group moves"}, and every copy has room.`);
+    return el("p", { class: "verdict good", id: "verdict" }, el("strong", {}, "Yes"), `: ${all.moved ? moved : "no group moves"}, and every copy has a device.`);
 }
 
 // What isn't computed and may have to do with the answer.
@@ -81,7 +81,7 @@ export function leftOutNote(pools, groups = 0) {
 // One line for each pool, where there are several.
 export function poolLines(found) {
     if (found.length < 2) return null;
-    const head = ["pool", "fewer copies than its size", "copies without room", "groups that move", "copies written anew"];
+    const head = ["pool", "fewer copies than its size", "copies without a device", "groups that move", "copies written anew"];
     const row = ({ pool, lacks, moved, anew }) => el("tr", { "data-pool": pool.id }, el("th", { scope: "row", class: "place" }, pool.name), [lacks.groups, lacks.copies, moved, anew].map((it, at) => el("td", { class: `number ${at < 2 && it ? "bad" : ""}` }, count(it))));
     return el("div", { class: "card scroll", id: "by-pool", tabindex: "0", role: "region", "aria-label": "By pool" }, el("table", { "aria-label": "By pool" }, el("thead", {}, el("tr", {}, head.map((it, at) => el("th", { scope: "col", class: at ? "number" : "place" }, it)))), el("tbody", {}, found.map(row))));
 }

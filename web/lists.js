@@ -91,8 +91,8 @@ export function movesOf(pool, rows) {
 }
 
 // What differs between the lists of a pool before and after: the groups that move with their
-// lists, what each device has before and after, gains and loses, and what has no room, but for some
-// groups.
+// lists, what each device has before and after, gains and loses, and what has no device, but for
+// some groups.
 export function differences(pool, before, after, but) {
     const groups = [];
     for (let group = 0; group < pool.pg_num; group += 1) if (!same(listAt(before, group), listAt(after, group))) groups.push(group);

@@ -82,7 +82,7 @@ export function showDrain(cluster, wanted = {}) {
         running?.stop();
         at.replaceChildren(hint());
     }
-    const hint = () => el("p", { class: "empty" }, "Tick a rack, a host or devices, then the answer is here: whether every copy has room, what moves, and how full each host gets.");
+    const hint = () => el("p", { class: "empty" }, "Tick a rack, a host or devices, then the answer is here: whether every copy has a device, what moves, and how full each host gets.");
     async function run(event) {
         event?.preventDefault();
         if (running) return;

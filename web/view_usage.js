@@ -48,7 +48,7 @@ async function shown(cluster, work) {
     const values = { copies: (id) => copies.get(id), expected: (id) => expected.get(id) };
     const share = (it) => percent(it.copies, it.expected);
     return [
-        figures([[count(whole), "copies in all", "", "copies"], lacks > 0 && [count(lacks), "copies have no room", "bad", "missing"],
+        figures([[count(whole), "copies in all", "", "copies"], lacks > 0 && [count(lacks), "copies have no device", "bad", "missing"],
             most && [most[0], `of its share has ${most[1]}, the most`, "", "most"], least && [least[0], `of its share has ${least[1]}, the least`, "", "least"]], "answer"),
         await sharePicture(cluster, work, placeActions(cluster), pools),
         placesTable(cluster, {

@@ -118,7 +118,7 @@ def a_drain_of_a_host_is_answered_first(page):
     hosts = {it: row[2:5] for it, row in page.rows("#usages tr[data-place]").items()}
     sums = {f"host{it}": [str(sum(of.usage()[device][0] for device in (2 * it, 2 * it + 1))) for of in (before, after)] for it in range(3)}
     return first(
-        unlike(clicks, 2, "clicks:"), unlike(page.browser.text("#verdict"), f"Yes: {len(change.moves)} groups move, and every copy has room."), unlike(page.figures(), wanted_figures([change], parts[1])),
+        unlike(clicks, 2, "clicks:"), unlike(page.browser.text("#verdict"), f"Yes: {len(change.moves)} groups move, and every copy has a device."), unlike(page.figures(), wanted_figures([change], parts[1])),
         unlike(tops, sorted(tops), "the order is"), unlike(folded, True, "the groups are folded:"), unlike({it: row[:2] for it, row in hosts.items()}, sums, "sums of hosts:"),
         unlike(figures_of_devices(page), wanted_rows(change, *parts)), unlike(page.ask("GET", f"/t/{tenant}/pools/1/usage"), usage), no_copy_is_left(page, tenant, summary),
     )
@@ -135,7 +135,7 @@ def a_rack_without_room_is_red(page):
     red = page.browser.run("return getComputedStyle(document.querySelector('[data-figure=short] dd')).color")
     badges = page.browser.run("return [...document.querySelectorAll('#usages .badge.out')].map((it) => it.textContent)")
     return first(
-        unlike(page.browser.text("#verdict"), f"No: {change.missing} copies of pool photos have no room; {len(change.moves)} groups move."), unlike(page.figures(), wanted_figures([change], parts_of(CLUSTER, dict.fromkeys(devices, 0)))),
+        unlike(page.browser.text("#verdict"), f"No: {change.missing} copies of pool photos have no device; {len(change.moves)} groups move."), unlike(page.figures(), wanted_figures([change], parts_of(CLUSTER, dict.fromkeys(devices, 0)))),
         None if change.missing > 0 and red != page.browser.run("return getComputedStyle(document.querySelector('[data-figure=moved] dd')).color") else f"the number is {red}", unlike(badges, ["drained"] * 2), unlike(page.summary(tenant)["epoch"], 2),
     )
 
