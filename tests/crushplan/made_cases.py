@@ -256,7 +256,7 @@ def no_room(runner, folder):
     write(folder, crush_dump(), osd_dump(pools=[pool(1, "photos", size=4), pool(2, "small", size=2, min_size=1)]))
     code, out, _ = runner.run("drain", folder, "host2")
     equals("status", code, 1)
-    wants(out.startswith("no: 64 copies of pool photos have no room; "), out[:200])
+    wants(out.startswith("no: 64 copies of pool photos have no device; "), out[:200])
     said = runner.said("drain", folder, "host2")
     equals("short", said["short"], {"groups": 64, "copies": 64, "groups_before": 0, "copies_before": 0})
     said = runner.said("fail", folder, "host2", status=1)
@@ -273,9 +273,9 @@ def already_short(runner, folder):
     write(folder, crush_dump(hosts=3), osd_dump(9, [pool(1, "photos", size=4)]))
     said = runner.said("drain", folder, "osd.0", status=1)
     equals("short", said["short"], {"groups": 64, "copies": 64, "groups_before": 64, "copies_before": 64})
-    wants(said["answer"].startswith("no: 64 copies of pool photos have no room (as many as before); "), said["answer"])
+    wants(said["answer"].startswith("no: 64 copies of pool photos have no device (as many as before); "), said["answer"])
     wants("64 of 64, by 64 copies (before: 64, by 64)" in runner.run("drain", folder, "osd.0")[1], "the summary doesn't say it")
-    wants(runner.said("drain", folder, "host0", status=1)["answer"].startswith("no: 128 copies of pool photos have no room (64 before); "), "nor does another")
+    wants(runner.said("drain", folder, "host0", status=1)["answer"].startswith("no: 128 copies of pool photos have no device (64 before); "), "nor does another")
     said = runner.said("fail", folder, "osd.0", status=1)
     equals("while it is down all are short", said["down"]["short"], 64)
 
@@ -460,7 +460,7 @@ def untouched(runner, folder):
     for name in ("spare", "osd.5"):
         said = runner.said("drain", folder, name, status=0)
         equals(name, (said["moved"], said["copies"]), (0, 0))
-        equals(name, said["answer"], "yes: no group moves, and every copy has room.")
+        equals(name, said["answer"], "yes: no group moves, and every copy has a device.")
 
 
 def dumps_in_turn(runner, folder):

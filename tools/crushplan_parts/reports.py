@@ -80,7 +80,7 @@ def verdict(summary, stay, status, stopped=0):
     if lacking:
         pools = some([it.pool.name for it in lacking], 3)
         before = " (as many as before)" if summary.missing_before == summary.missing else f" ({summary.missing_before:,} before)" if summary.missing_before else ""
-        why.append(f"{counted(summary.missing, *COPY)} of {'pool' if len(lacking) == 1 else 'the pools'} {pools} {'has' if summary.missing == 1 else 'have'} no room{before}")
+        why.append(f"{counted(summary.missing, *COPY)} of {'pool' if len(lacking) == 1 else 'the pools'} {pools} {'has' if summary.missing == 1 else 'have'} no device{before}")
     if summary.past["backfillfull_ratio"]:
         why.append(f"{some([shown_used(it) for it in summary.past['backfillfull_ratio']], 3)}, past the backfill-full ratio")
     if summary.room_gap():

@@ -146,7 +146,7 @@ class Summary:
 
     def knows_room(self):
         """Returns whether the files say how full each device gets that gets more."""
-        return self.looks_at_room() and not self.room_gap() or not any(it.after > it.before for it in self.devices)
+        return self.looks_at_room() and not self.room_gap()
 
     def has_room(self):
         """Returns whether every copy has room: a device, which isn't past the ratio from which on
