@@ -54,8 +54,8 @@ export function answerRow(cluster, all) {
     ], "answer");
 }
 
-// The answer in one sentence: whether every copy has a device, and how many groups move. `stopped` is
-// how many groups stop while devices are down, `keeping` how many copies stay on devices that a
+// The answer in one sentence: whether every copy has a device, and how many groups move. `stopped`
+// is how many groups stop while devices are down, `keeping` how many copies stay on devices that a
 // rule takes by name, `broken` how many groups have exceptions that break their rule, `unknown` how
 // much isn't computed that may have to do with it.
 export function verdict(found, all, { stopped = 0, keeping = 0, broken = 0, unknown = 0 } = {}) {
