@@ -172,6 +172,28 @@ def filled_by_a_map(runner, folder):
     equals("without df.json", (said["fullest"], said["past_backfillfull"]), (None, []))
 
 
+def uneven_groups(runner, folder):
+    """Where pg_num is no power of two, groups to which two residues of the hash fall count twice."""
+    crush = crush_dump()
+    fields = {**PHOTOS, "pg_num": 24}
+    old, new = Placed(text_of(crush), **fields), Placed(text_of(crush), reweights={0: 0, 1: 0, 2: 0}, **fields)
+    residues = collections.Counter(it if it < 24 else it % 16 for it in range(32))
+    equals("groups that count twice", sorted(it for it in residues if residues[it] == 2), list(range(8, 16)))
+    each = 72_000_000 / (3 * 32)  # bytes of a copy of one residue
+    moved = [(residues[group], before, after) for group, before, after in old.moves(new)]
+    dump = {"stats": {}, "pools": [{"name": "photos", "id": 1, "stats": {"stored": 1, "objects": 1, "bytes_used": 72_000_000}}]}
+    used = {it: sum(residues[group] for group, up in enumerate(old.up) if it in up) * each for it in range(12)}
+    nodes = [{"id": it, "name": f"osd.{it}", "kb": 100_000, "kb_used": int(used[it] // 1024)} for it in range(12)]
+    write(folder, crush, osd_dump(pools=[pool(1, "photos", pg_num=24)]), df_json=dump, osd__df_json={"nodes": nodes})
+    said = runner.said("drain", folder, "host0", status=0)
+    equals("bytes", said["bytes"], round(sum(count * len(set(after) - set(before)) for count, before, after in moved) * each))
+    wanted = {it: (used[it] // 1024 * 1024 + sum(count * ((it in after) - (it in before)) for count, before, after in moved) * each) / 102_400_000 for it in range(3, 12)}
+    for it in said["usage"][3:]:
+        wants(abs(it["used_after"] - wanted[it["device"]]) < 0.0001, (it, wanted[it["device"]]))
+    groups = collections.Counter(it for up in new.up for it in up)
+    wants(any(abs(wanted[it] - groups[it] * 1_000_000 / 102_400_000) > 0.001 for it in wanted), "no device has more of one kind of groups")
+
+
 def by_itself(runner, folder):
     """What Ceph doesn't do by itself is said: by flags, of whole racks, of primaries that were set,
     and that not all groups have as many bytes."""
@@ -207,5 +229,5 @@ def old_tunables(runner, folder):
 
 
 def cases():
-    found = (uniform, weight_first, gaps, too_full, lost_shadows, cut_pairs, new_devices, filled_by_a_map, by_itself, old_tunables)
+    found = (uniform, weight_first, gaps, too_full, lost_shadows, cut_pairs, new_devices, filled_by_a_map, uneven_groups, by_itself, old_tunables)
     return [(it.__name__, it) for it in found]

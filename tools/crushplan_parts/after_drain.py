@@ -1,12 +1,11 @@
 """What removing the drained devices from the map would move again, and what it moves where their
 CRUSH weight becomes 0 first, in the place of the drain."""
-import collections
 import fractions
 
 from .edits import purged, weighed
 from .placing import Note
 from .stages import Stages
-from .summary import total, whole, written_anew
+from .summary import bytes_anew, gains, total, whole, written_anew
 
 
 class Steps:
@@ -17,9 +16,10 @@ class Steps:
         after."""
         self.moved = sum(len(moves) for _, moves in changes)
         self.groups = [(change.pool, group, *both) for change, moves in changes for group, both in sorted(moves.items())]
-        self.by_pool = [(change, sum(written_anew(change.pool, old, new) for old, new in moves.values())) for change, moves in changes]
-        self.copies = sum(it for _, it in self.by_pool)
-        self.bytes = total(change.bytes_of(copies) for change, copies in self.by_pool)
+        self.copies = sum(written_anew(pool, old, new) for pool, _, old, new in self.groups)
+        lists = [(change, [(group, *both) for group, both in moves.items()]) for change, moves in changes]
+        self.bytes = total(bytes_anew(*it) for it in lists)
+        self.gains = [(change, gains(change.pool, own)) for change, own in lists]
 
     def said(self, with_groups):
         found = {"moved": self.moved, "copies": self.copies, "bytes": whole(self.bytes)}
@@ -73,19 +73,15 @@ class AfterDrain:
         self.drained = sum(it.copies for it in changes if it.pool not in self.without)
         changes = [it for it in changes if it.pool.id in self.pools]
         self.purge, self.weight_first, self.then_purge = (self.steps(changes, it) for it in (purge, first, second))
-        self.gained = collections.Counter()  # entries of a device and a pool, by the weight of 0
-        for pool, _, old, new in self.weight_first.groups:
-            for sign, items in ((-1, old), (1, new)):
-                for device in items:
-                    self.gained[device, pool.id] += sign
         # a uniform bucket picks a device of the weight 0 as any other
-        self.left = sum(it.before.entries.get(device, 0) + self.gained[device, it.pool.id] for it in changes for device in self.devices)
-        self.too_full = self.find_too_full(changes)
+        own = set(self.devices)
+        self.left = sum(it.before.entries.get(device, 0) for it in changes for device in own) + sum(len(own & set(new)) - len(own & set(old)) for _, _, old, new in self.weight_first.groups)
+        self.too_full = self.find_too_full()
 
-    def find_too_full(self, changes):
+    def find_too_full(self):
         ratio, found = self.plan.cluster.ratios.get("backfillfull_ratio"), []
         for device, room in sorted(self.plan.cluster.rooms.items()):
-            bytes_ = total(it.bytes_of(self.gained[device, it.pool.id]) for it in changes if self.gained[device, it.pool.id])
+            bytes_ = total(change.bytes_of(gained[device]) for change, gained in self.weight_first.gains if gained[device])
             if ratio is not None and bytes_ is not None and bytes_ > 0 and room.size > 0:
                 used = (room.used + bytes_) / fractions.Fraction(room.size)
                 if used > fractions.Fraction(ratio):

@@ -1,5 +1,6 @@
 """A cluster, from the folder of its dumps: map, pools, states of devices, upmap items, bytes."""
 import dataclasses
+import fractions
 from decimal import Decimal
 import pathlib
 import re
@@ -38,6 +39,14 @@ class Pool:
     def group_name(self, group):
         """Returns a group's id as Ceph writes it."""
         return f"{self.id}.{group:x}"
+
+    def part_of(self, group):
+        """Returns how many of the pool's groups this one counts for by its objects: other than 1
+        where pg_num is no power of two, since Ceph's stable_mod gives some groups twice as many."""
+        whole = 1 << (self.pg_num - 1).bit_length()
+        if whole == self.pg_num:
+            return 1
+        return fractions.Fraction(self.pg_num * (2 if self.pg_num - whole // 2 <= group < whole // 2 else 1), whole)
 
     def place_of(self, group):
         """Returns the place by which groups share a seed (Ceph's stable_mod by pgp_num)."""

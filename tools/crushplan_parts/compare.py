@@ -13,7 +13,7 @@ from .reports import COPY, listed, used_said
 from .service import change
 from .shares import Shares, hundredths, rounded
 from .stages import Stages
-from .summary import PoolChange, ratio_said, total, whole, written_anew
+from .summary import PoolChange, bytes_anew, gains, ratio_said, total, whole, written_anew
 from .tree import Tree
 from .write_text import Text
 
@@ -82,7 +82,7 @@ def compare(plan, asked):
     moves = stages.set_map(new.map, new.text.text(), True) if pools else {}
     changes = [Compared(plan, new.map, it, run.counted(usages[it.id]), stages.usages[it.id], moves[it.id]) for it in pools]
     moved, copies = sum(len(it.moves) for it in changes), sum(it.copies for it in changes)
-    bytes_ = total(it.change.bytes_of(it.copies) for it in changes)
+    bytes_ = total(it.bytes for it in changes)
     missing, before = sum(it.missing for it in changes), sum(it.missing_before for it in changes)
     least = sum((it.least for it in changes), fractions.Fraction(0))
     unknown = bool(new.left_out or plan.left_out)
@@ -97,7 +97,7 @@ def compare(plan, asked):
     if new.map.rounded and not plan.map.rounded:
         plan.notes.append(Note("rounded", f"{new.map.file} has weights with three decimals, and {plan.map.file} exact ones: what this rounding alone moves is part of the answer, as it would be in the cluster", open_=False))
     hosts = hosts_of(plan, new.map, changes)
-    by_pool = Table(("pool", "id", "move", "of", "copies", "bytes", "least"), [(it.pool.name, it.pool.id, len(it.moves), it.pool.pg_num, it.copies, sized(it.change.bytes_of(it.copies)), rounded(it.least.numerator, it.least.denominator, 1)) for it in changes], "By pool:") if len(changes) > 1 else None
+    by_pool = Table(("pool", "id", "move", "of", "copies", "bytes", "least"), [(it.pool.name, it.pool.id, len(it.moves), it.pool.pg_num, it.copies, sized(it.bytes), rounded(it.least.numerator, it.least.denominator, 1)) for it in changes], "By pool:") if len(changes) > 1 else None
     by_host = Table(("host", "lost", "gained"), hosts, "Copies lost and gained, by host:") if hosts else None
     blocks = [Table(("", ""), rows), by_pool, by_host]
     groups = [(it.pool, group, old, now, written_anew(it.pool, old, now)) for it in changes for group, (old, now) in sorted(it.moves.items())]
@@ -129,16 +129,17 @@ class Compared:
         self.pool, self.moves = pool, {group: it for group, it in moves.items() if group not in skipped}
         self.copies = sum(written_anew(pool, *it) for it in self.moves.values())
         self.change = PoolChange(pool, before, set(), [])
-        self.after = after
+        lists = [(group, *both) for group, both in self.moves.items()]
+        self.bytes, self.gains = bytes_anew(self.change, lists), gains(pool, lists)
         self.missing, self.missing_before = (pool.size * pool.pg_num - it.total() for it in (after, before))
         old = Shares(plan.map, plan.map.rules[pool.rule], pool.size, plan.state)
         new = Shares(map_, map_.rules[pool.rule], pool.size, lambda it: plan.state(it) if it in plan.text.items else State())
         # the parts that devices gain, each of the copies that there are
-        gains = (fractions.Fraction(new.of(it), new.whole) - fractions.Fraction(old.of(it), old.whole) for it in {*old.parts, *new.parts})
-        self.least = sum((it for it in gains if it > 0), fractions.Fraction(0)) * before.total()
+        grown = (fractions.Fraction(new.of(it), new.whole) - fractions.Fraction(old.of(it), old.whole) for it in {*old.parts, *new.parts})
+        self.least = sum((it for it in grown if it > 0), fractions.Fraction(0)) * before.total()
 
     def said(self):
-        return {"pool": self.pool.id, "name": self.pool.name, "moved": len(self.moves), "copies": self.copies, "bytes": whole(self.change.bytes_of(self.copies)), "least": rounded(self.least.numerator, self.least.denominator, 2), "missing_copies": self.missing, "missing_copies_before": self.missing_before}
+        return {"pool": self.pool.id, "name": self.pool.name, "moved": len(self.moves), "copies": self.copies, "bytes": whole(self.bytes), "least": rounded(self.least.numerator, self.least.denominator, 2), "missing_copies": self.missing, "missing_copies_before": self.missing_before}
 
 
 class Filled:
@@ -149,7 +150,7 @@ class Filled:
         self.plan, self.used = plan, {}
         weights, ratios = [weights_of(it) for it in (plan.map, map_)], plan.cluster.ratios
         for device, room in sorted(plan.cluster.rooms.items()):
-            gained = total(it.change.bytes_of(it.after.entries.get(device, 0) - it.change.before.entries.get(device, 0)) for it in changes)
+            gained = total(it.change.bytes_of(it.gains[device]) for it in changes)
             old, new = (it.get(device) for it in weights)
             if gained is not None and room.size > 0 and old and new and abs(old - new) <= ROUNDED:
                 self.used[device] = fractions.Fraction(room.used, room.size), max(room.used + gained, 0) / fractions.Fraction(room.size)

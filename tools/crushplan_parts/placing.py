@@ -169,7 +169,7 @@ class Plan:
             if pool.object_hash != 2:
                 self.notes.append(Note("object hash", f"pool {pool.name} has another object hash than rjenkins: where its groups lie is computed, where its objects lie isn't", pools=[pool.id], devices=self.devices_of(pool), open_=False))
             if pool.bytes is not None and pool.pg_num & (pool.pg_num - 1):
-                self.notes.append(Note("pg_num", f"pool {pool.name} has {pool.pg_num} groups, which is no power of two: some of them have twice the objects of others, and bytes are said here as if all had as many", pools=[pool.id], devices=self.devices_of(pool), open_=False))
+                self.notes.append(Note("pg_num", f"pool {pool.name} has {pool.pg_num} groups, which is no power of two: some of them have twice the objects of others. What moves, and how full devices get, is said by that, but bytes before and after as if all had as many", pools=[pool.id], devices=self.devices_of(pool), open_=False))
         self.note_groups("pg_upmap", cluster.lists, "whole upmap lists (pg_upmap)", "where they lie isn't computed: they count where their rule puts them, and stand in no list of moves")
         for kind in ("pg_temp", "primary_temp"):
             self.note_groups(kind, cluster.temporary.get(kind, {}), f"a temporary {'list' if kind == 'pg_temp' else 'primary'} ({kind})", "what is said is where they lie once that is over")

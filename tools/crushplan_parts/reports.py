@@ -159,7 +159,7 @@ def pools_table(summary):
     if len(summary.changes) < 2 or not own:
         return None
     heads = ("pool", "id", "size", "short", "missing", "move", "of", "copies", "bytes")
-    rows = [(it.pool.name, it.pool.id, it.pool.size, it.short, it.missing, len(it.moves), it.pool.pg_num, it.copies, sized(it.bytes_of(it.copies))) for it in own]
+    rows = [(it.pool.name, it.pool.id, it.pool.size, it.short, it.missing, len(it.moves), it.pool.pg_num, it.copies, sized(it.bytes)) for it in own]
     return Table(heads, rows, "By pool:")
 
 

@@ -1,5 +1,6 @@
 """What a change does to pools: the groups that move, copies written anew, groups a copy short, and
 how full devices are then. Sums and differences of what crushcalc answers, in whole numbers."""
+import collections
 import fractions
 
 from .faults import some
@@ -17,6 +18,23 @@ def written_anew(pool, old, new):
     if pool.kind == "erasure":
         return sum(it is not None and (place >= len(old) or old[place] != it) for place, it in enumerate(new))
     return len({it for it in new if it is not None} - set(old))
+
+
+def bytes_anew(change, moves):
+    """Returns the bytes that moves of a pool write: groups with their up lists before and after."""
+    return change.bytes_of(sum(written_anew(change.pool, old, new) * change.pool.part_of(group) for group, old, new in moves))
+
+
+def gains(pool, moves):
+    """Returns of each device how many copies it gains by such moves, each by its group's part of the
+    pool's objects."""
+    found = collections.Counter()
+    for group, old, new in moves:
+        part = pool.part_of(group)
+        for sign, items in ((-part, old), (part, new)):
+            for device in items:
+                found[device] += sign
+    return found
 
 
 class Moved:
@@ -49,6 +67,8 @@ class PoolChange:
             lacking[it.group] = pool.size - copies_in(it.after.up)
         self.short, self.missing = counts(lacking)
         self.copies = sum(it.copies for it in moves)
+        lists = [(it.group, it.before.up, it.after.up) for it in moves]
+        self.bytes, self.gains = bytes_anew(self, lists), gains(pool, lists)
 
     def bytes_of(self, copies):
         """Returns the bytes of so many copies, of which each has the same part of the pool's, or
@@ -61,7 +81,7 @@ class PoolChange:
         return {
             "pool": pool.id, "name": pool.name, "kind": pool.kind, "size": pool.size, "min_size": pool.min_size, "pg_num": pool.pg_num,
             "short_groups": self.short, "missing_copies": self.missing, "short_groups_before": self.short_before, "missing_copies_before": self.missing_before,
-            "can_move": len(self.can_move), "moved": len(self.moves), "copies": self.copies, "bytes": whole(self.bytes_of(self.copies)),
+            "can_move": len(self.can_move), "moved": len(self.moves), "copies": self.copies, "bytes": whole(self.bytes),
         }  # fmt: skip
 
 
@@ -104,7 +124,7 @@ class Summary:
         self.missing_before = sum(it.missing_before for it in changes)
         self.can_move = sum(len(it.can_move) for it in changes)
         self.groups = sum(it.pool.pg_num for it in changes)
-        self.bytes = total(it.bytes_of(it.copies) for it in changes)
+        self.bytes = total(it.bytes for it in changes)
         self.devices = devices_of(plan, changes, states, quick)
         self.fullest, self.as_full = self.find_fullest()
         self.past = {name: self.devices_past(name) for name in ("nearfull_ratio", "backfillfull_ratio", "full_ratio")}
@@ -235,4 +255,5 @@ def fill(plan, changes, it):
     room = plan.cluster.rooms.get(it.id)
     if room and room.size > 0:
         it.used_before = fractions.Fraction(room.used, room.size)
-        it.used_after = fractions.Fraction(max(room.used + it.bytes_after - it.bytes_before, 0)) / room.size
+        gained = sum(change.bytes_of(change.gains[it.id]) or 0 for change in changes)
+        it.used_after = fractions.Fraction(max(room.used + gained, 0)) / room.size

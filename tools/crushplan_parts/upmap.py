@@ -85,7 +85,7 @@ def upmap(plan, asked):
     refused = [it for it in rows if it["breaks"]]
     idle = [it for it in rows if it["remarks"]]
     moved, copies = sum(len(it.moves) for it in changes), sum(it.copies for it in changes)
-    bytes_ = total(it.bytes_of(it.copies) for it in changes)
+    bytes_ = total(it.bytes for it in changes)
     unknown = [it for pool, own in wanted.items() for it in own if it in plan.whole_lists.get(pool, ())]
     cut = [it for it in rows if not it["breaks"] and it["kept"] != it["pairs"]]
     status = 1 if refused or cut else 2 if unknown else 0
