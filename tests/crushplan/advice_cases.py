@@ -173,7 +173,7 @@ def filled_by_a_map(runner, folder):
 
 
 def uneven_groups(runner, folder):
-    """Where pg_num is no power of two, groups to which two residues of the hash fall count twice."""
+    """Where pg_num is no power of two, groups of two residues of the hash count twice."""
     crush = crush_dump()
     fields = {**PHOTOS, "pg_num": 24}
     old, new = Placed(text_of(crush), **fields), Placed(text_of(crush), reweights={0: 0, 1: 0, 2: 0}, **fields)
