@@ -26,8 +26,8 @@ def bytes_anew(change, moves):
 
 
 def gains(pool, moves):
-    """Returns of each device how many copies it gains by such moves, each by its group's part of the
-    pool's objects."""
+    """Returns of each device how many copies it gains by such moves, each by its group's part of
+    the pool's objects."""
     found = collections.Counter()
     for group, old, new in moves:
         part = pool.part_of(group)
