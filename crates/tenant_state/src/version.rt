@@ -125,8 +125,6 @@ impl Version {
 fn canonical_text(alloc: Global, map: &CrushMap) -> Result<SharedText, AllocError>
     ensures { IfOk result (λ text. text ≡ canonical map.now) }
 {
-    // any reader of a map also gives the prover that it is valid, which the law needs
-    let _tunables = map.tunables();
     canonical_texts_are_ascii();
     match String::from_utf8(write_map(alloc, map)?) {
         Ok(text) => SharedText::new(text),
