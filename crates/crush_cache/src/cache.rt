@@ -68,6 +68,7 @@ fn place_anew(
     ensures there { IfOk result (λ answer. is_ok answer ≡ nat_lt group placer.now.pool.pg_num) }
     ensures placed { IfOk result (λ answer. IfOk answer (λ p. placement placer.now.map placer.now.states placer.now.pool placer.now.pairs group ≡ Some p.value)) }
     ensures fault { IfOk result (λ answer. IfErr answer (λ fault. fault ≡ PoolFault.P2)) }
+    ensures map { IsMap placer.now.map }
 {
     if group >= placer.pool_parts().pg_num {
         return Ok(Err(PoolFault::P2));
@@ -171,8 +172,7 @@ impl PlacementCache {
         placer: &Placer<'_>,
         group: u32,
     ) -> Result<Result<Rc<Placement>, PoolFault>, AllocError>
-        requires number { IsNumberOf self.old number (content_of placer.now) }
-        requires map { IsMap placer.now.map }
+        requires { IsNumberOf self.old number (content_of placer.now) }
         ensures there { IfOk result (λ answer. is_ok answer ≡ nat_lt group placer.now.pool.pg_num) }
         ensures placed { IfOk result (λ answer. IfOk answer (λ p. placement placer.now.map placer.now.states placer.now.pool placer.now.pairs group ≡ Some p.value)) }
         ensures fault { IfOk result (λ answer. IfErr answer (λ fault. fault ≡ PoolFault.P2)) }

@@ -125,6 +125,11 @@ none_counted up first before now (None ∷ others) long none is =
     rw (after_cons None others) (record { lens = is.lens; groups = is.groups; entries = is.entries; primaries = is.primaries; filled = is.filled })
 none_counted up first before now (Some item ∷ others) long none is = absurd (false≢true (sym none))
 
+-- where nothing is left, all is counted, with or without an entry
+pub all_counted : (up : List Slot) (first : Bool) (before now : TallyView) (rest : List Slot) → length rest ≡ 0 → IsCounting up first before rest now → IsCounting up true before [] now
+all_counted up first before now [] none is = record { lens = is.lens; groups = is.groups; entries = is.entries; primaries = is.primaries; filled = is.filled }
+all_counted up first before now (slot ∷ others) none is = absurd (omega arith)
+
 -- ---- one more list
 
 length_if : {X : Type 0} (b : Bool) (x : X) → length (cond b (x ∷ []) []) ≡ one_if b

@@ -1,5 +1,5 @@
 -- What a text is found to be: a map, or refused for its first fault.
-use Rattle.std.proofs.Common.{◌≡◌, ◌∙◌, ◌⊎◌, inl, inr, ℕ, List, Option, Some, None, MatchOption, refl, sym, ap}
+use Rattle.std.proofs.Common.{◌≡◌, ◌∙◌, ◌⊎◌, inl, inr, List, Option, Some, None, MatchOption, sym, ap}
 use Rattle.std.proofs.Common.{Result, Ok}
 use Rattle.std.specs.Result.{result_err}
 use Rattle.std.proofs.Common.{IfOk}

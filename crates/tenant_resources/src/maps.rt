@@ -14,7 +14,6 @@ use crush_map::Text;
 use crush_text::{read_map, texts_are_read_as_they_say};
 use serde_json::{Value, json};
 use std::alloc::{AllocError, Global};
-use std::rc::Rc;
 use tenant_messages::{
     Problem, Refusal, Reply, SuccessStatus, has_keys, request_number, success, text,
 };
@@ -65,7 +64,7 @@ pub fn import(alloc: Global, text: &str, inventory: &Inventory) -> Result<Accept
             if !inventory.has_rules_in(&map) {
                 return Err(Refusal::Problem(Problem::RuleInUse));
             }
-            let version = Rc::new(alloc, Version::build(alloc, map)?)?;
+            let version = Version::shared(alloc, map)?;
             Ok(Accepted {
                 made: Made::Version(version),
                 status: SuccessStatus::Created,

@@ -3,7 +3,7 @@ use Rattle.crush_report.proofs.Kept.{last_start, none_kept, one_more}
 use Rattle.crush_report.proofs.answers.Answers.build.Goals as goal
 
 pub returns-then-not-are_few-clause-answers : goal.returns-then-not-are_few-clause-answers
-returns-then-not-are_few-clause-answers c = none_kept c.args.placer.now _ c.pool_parts-parts.ensures.valid c.new-2.ensures.items
+returns-then-not-are_few-clause-answers c = none_kept c.args.placer.now _ c.pool_parts-parts.ensures.valid c.new-then-not-are_few.ensures.items
 
 pub loop-place-preserved : goal.loop-place-preserved
 loop-place-preserved c =

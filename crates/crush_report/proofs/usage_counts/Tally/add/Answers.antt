@@ -1,5 +1,5 @@
 use Rattle.std.proofs.Common.{◌≡◌, true, false, None, is_some, sym, ◌∙◌, slice_index_or, length, arith}
-use Rattle.crush_report.proofs.Counting.{after_first, after_len, counted, entry_counted, none_counted, room_less}
+use Rattle.crush_report.proofs.Counting.{after_first, after_len, all_counted, counted, entry_counted, none_counted, room_less}
 use Rattle.crush_report.specs.Private.Tallies.{is_again}
 use Rattle.crush_report.proofs.usage_counts.Tally.add.Goals as goal
 
@@ -23,8 +23,8 @@ loop-rest-preserved-then-is_some c =
       filled = omega (arith, one.filled, len, c.loop-rest.invariant.filled);
     }
 
-pub loop-rest-preserved-else-is_some : goal.loop-rest-preserved-else-is_some
-loop-rest-preserved-else-is_some c =
+pub loop-rest-preserved : goal.loop-rest-preserved
+loop-rest-preserved c =
     let rest = c.loop-rest.rest.now in
     let long = c.in-len1-up.len_at_least in
     let none : is_some (slice_index_or rest 0 None) ≡ false = sym c.is_some.ensures ∙ c.if-is_some.false in
@@ -38,4 +38,6 @@ loop-rest-preserved-else-is_some c =
     }
 
 pub returns : goal.returns
-returns c = counted c.args.up.now c.args.self.now c.loop-rest.self c.loop-rest.invariant.counting
+returns c =
+    let none : length c.loop-rest.rest.now ≡ 0 = omega arith in
+    counted c.args.up.now c.args.self.now c.loop-rest.self (all_counted c.args.up.now c.loop-rest.first c.args.self.now c.loop-rest.self c.loop-rest.rest.now none c.loop-rest.invariant.counting)
