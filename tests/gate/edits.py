@@ -126,6 +126,15 @@ class Record:
             self.rows[edit.name], self.is_taken = other, True
         return digest is not None and self.rows.get(edit.name, (None, None))[1] == digest
 
+    def take(self, edit, where, digest, here):
+        """Records where a wrong body was refused, or None. `digest` is that of the sources on which
+        it was tried, and `here` that of the repository's: where these differ, as they do for a
+        program that names its commit, what is recorded stays if it fits here."""
+        if where and digest and digest == here:
+            self.rows[edit.name] = where, digest
+        elif not (where and self.fits(edit, here)):
+            self.rows.pop(edit.name, None)
+
     def minutes(self):
         """Minutes of processor that trying all edits took, or nothing where that isn't recorded."""
         first, checks, further = self.seconds or (0, 0, 0)
