@@ -21,8 +21,9 @@ HISTORIES = 4
 SEED = $(shell date +%s)
 # make package-check: an earlier package, from which the new one is an upgrade
 BEFORE =
-# make rebuild-check: the program names its commit, as a release's does
+# make rebuild-check: the program names its commit, as a release's does; or the folder of a release
 STAMP =
+RELEASE =
 CPUS = x86-64 x86-64-v2 x86-64-v3
 FOR = $(if $(CPU),--cpu=$(CPU))
 ifneq ($(filter-out $(CPUS),$(CPU)),)
@@ -88,7 +89,8 @@ help:
 ## make package-check   as root: installs the package in a Debian with nothing else, made by
 ##                debootstrap, uses it, upgrades it from BEFORE=FILE and removes it
 ## make rebuild-check   builds the commit twice, in folders of different names (the gate's build is
-##                one of them), and compares programs and packages to the byte
+##                one of them), and compares programs and packages to the byte; with
+##                RELEASE=FOLDER builds a release's commit, and compares with its sums
 ## make sqlite-check    compares database files with those of the tool sqlite3, both ways
 ## make refused-check   refuses each allocation in turn, in memory, over a file and in a server:
 ##                some 110,000 runs
@@ -192,7 +194,7 @@ package: build
 	@lintian --allow-root --fail-on error,warning build/package/*.deb
 
 rebuild-check: tools
-	@RT='$(RT)' python3 tools/rebuild $(if $(STAMP),--stamp)
+	@RT='$(RT)' python3 tools/rebuild $(if $(RELEASE),--release '$(RELEASE)',$(if $(STAMP),--stamp))
 
 release: tools
 	@python3 tools/dist --ready

@@ -38,9 +38,9 @@ def build(folder):
     return crate / "out" / "crushcalc"
 
 
-def packaged(folder, program, to):
+def packaged(folder, program, to, *options):
     """The packages of this program that package/build makes in a checkout."""
-    made = ran([sys.executable, "package/build", str(program), str(to)], folder).split()
+    made = ran([sys.executable, "package/build", str(program), str(to), *options], folder).split()
     return [to / pathlib.Path(it).name for it in made]
 
 

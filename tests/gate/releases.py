@@ -132,7 +132,10 @@ def refused_after(change, reason, folder):
 
 
 def rebuilt(folder, builds, *words):
-    top, rt = release(folder), folder / "rt"
+    return built_by(release(folder), folder / "rt", builds, *words)
+
+
+def built_by(top, rt, builds, *words):
     rt.write_text(builds)
     rt.chmod(0o755)
     return said_by(top, sys.executable, "tools/rebuild", *words, rt=rt)
@@ -146,6 +149,19 @@ def a_rebuild_of_the_same_bytes_passes(folder):
     return None if found == [(0, "2 passed, 0 failed", True), (0, "2 passed, 0 failed", False)] else f"{found}: {stamp.stdout}{plain.stdout}"
 
 
+def a_release_is_rebuilt(folder):
+    """The commit of the release is built again, whatever is checked out, and compared with its
+    sums."""
+    top, found = release(folder), []
+    if made_by_dist(top).returncode:
+        return "there is no release"
+    committed(top)
+    for builds in (BUILDS, BUILDS_OTHERWISE):
+        run = built_by(top, folder / "rt", builds, "--release", "dist/crushcalc-1.2.3")
+        found.append((run.returncode, run.stdout.splitlines()[-1]))
+    return None if found == [(0, "2 passed, 0 failed"), (1, "0 passed, 2 failed")] else f"{found}: {run.stdout}"
+
+
 def a_rebuild_of_other_bytes_fails(folder):
     run = rebuilt(folder, BUILDS_OTHERWISE, "--stamp")
     return None if run.returncode == 1 and run.stdout.splitlines()[-1] == "0 passed, 2 failed" else run.stdout
@@ -154,5 +170,5 @@ def a_rebuild_of_other_bytes_fails(folder):
 def cases():
     for name, (change, reason) in REFUSALS.items():
         yield f"a release is refused after {name}", lambda folder, change=change, reason=reason: refused_after(change, reason, folder)
-    for case in (a_release_has_what_the_gate_built, a_rebuild_of_the_same_bytes_passes, a_rebuild_of_other_bytes_fails):
+    for case in (a_release_has_what_the_gate_built, a_rebuild_of_the_same_bytes_passes, a_release_is_rebuilt, a_rebuild_of_other_bytes_fails):
         yield case.__name__.replace("_", " "), case
