@@ -156,7 +156,7 @@ class Summary:
     def room_gap(self):
         """Returns what the files don't say of how full devices get, in words, or None; None too
         where they say nothing at all of it."""
-        gaining = [it for it in self.devices if it.after > it.before]
+        gaining = [it for it in self.devices if any(change.gains[it.id] > 0 for change in self.changes)]
         if not self.looks_at_room() or all(it.used_after is not None for it in gaining):
             return None
         pools = [it.pool.name for it in self.changes if it.pool.bytes is None]
