@@ -159,7 +159,10 @@ def a_release_is_rebuilt(folder):
     for builds in (BUILDS, BUILDS_OTHERWISE):
         run = built_by(top, folder / "rt", builds, "--release", "dist/crushcalc-1.2.3")
         found.append((run.returncode, run.stdout.splitlines()[-1]))
-    return None if found == [(0, "2 passed, 0 failed"), (1, "0 passed, 2 failed")] else f"{found}: {run.stdout}"
+    (top / "dist/crushcalc-1.2.3/SHA256SUMS").unlink()
+    run = built_by(top, folder / "rt", BUILDS, "--release", "dist/crushcalc-1.2.3")
+    found.append((run.returncode, "it has no SHA256SUMS" in run.stdout))
+    return None if found == [(0, "2 passed, 0 failed"), (1, "0 passed, 2 failed"), (1, True)] else f"{found}: {run.stdout}"
 
 
 def a_rebuild_of_other_bytes_fails(folder):
