@@ -1,7 +1,5 @@
 """What removing the drained devices from the map would move again, and what it moves where their
 CRUSH weight becomes 0 first, in the place of the drain."""
-import fractions
-
 from .edits import purged, weighed
 from .placing import Note
 from .stages import Stages
@@ -79,13 +77,11 @@ class AfterDrain:
         self.too_full = self.find_too_full()
 
     def find_too_full(self):
-        ratio, found = self.plan.cluster.ratios.get("backfillfull_ratio"), []
-        for device, room in sorted(self.plan.cluster.rooms.items()):
-            bytes_ = total(change.bytes_of(gained[device]) for change, gained in self.weight_first.gains if gained[device])
-            if ratio is not None and bytes_ is not None and bytes_ > 0 and room.size > 0:
-                used = (room.used + bytes_) / fractions.Fraction(room.size)
-                if used > fractions.Fraction(ratio):
-                    found.append((device, used))
+        cluster, found = self.plan.cluster, []
+        for device, room in sorted(cluster.rooms.items()):
+            gained = total(change.bytes_of(gains_[device]) for change, gains_ in self.weight_first.gains if gains_[device])
+            if gained is not None and gained > 0 and cluster.is_past("backfillfull_ratio", room.used_after(gained)):
+                found.append((device, room.used_after(gained)))
         return found
 
     def steps(self, changes, moves):

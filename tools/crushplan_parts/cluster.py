@@ -69,6 +69,11 @@ class Room:
     used: int
     size: int
 
+    def used_after(self, gained=0):
+        """Returns which part of it is used once so many bytes are added, or None where its size
+        isn't known."""
+        return fractions.Fraction(max(self.used + gained, 0)) / self.size if self.size > 0 else None
+
 
 @dataclasses.dataclass
 class Cluster:
@@ -87,6 +92,10 @@ class Cluster:
     warnings: list
     described: bool = False  # whether the pools come from the command line
     flags: tuple = ()  # of the whole cluster, as noout
+
+    def is_past(self, name, used):
+        """Returns whether such a part of a device's room is more than a ratio of the cluster."""
+        return used is not None and name in self.ratios and used > fractions.Fraction(self.ratios[name])
 
 
 def fixed(value):

@@ -148,14 +148,14 @@ class Filled:
 
     def __init__(self, plan, map_, changes):
         self.plan, self.used = plan, {}
-        weights, ratios = [weights_of(it) for it in (plan.map, map_)], plan.cluster.ratios
-        for device, room in sorted(plan.cluster.rooms.items()):
+        weights, cluster = [weights_of(it) for it in (plan.map, map_)], plan.cluster
+        for device, room in sorted(cluster.rooms.items()):
             gained = total(it.change.bytes_of(it.gains[device]) for it in changes)
             old, new = (it.get(device) for it in weights)
             if gained is not None and room.size > 0 and old and new and abs(old - new) <= ROUNDED:
-                self.used[device] = fractions.Fraction(room.used, room.size), max(room.used + gained, 0) / fractions.Fraction(room.size)
+                self.used[device] = room.used_after(), room.used_after(gained)
         self.fullest = max(self.used, key=lambda it: (self.used[it][1], -it), default=None)
-        self.past = {name: [it for it, (old, new) in self.used.items() if name in ratios and new > old and new > fractions.Fraction(ratios[name])] for name in ("nearfull_ratio", "backfillfull_ratio")}
+        self.past = {name: [it for it, (old, new) in self.used.items() if new > old and cluster.is_past(name, new)] for name in ("nearfull_ratio", "backfillfull_ratio")}
 
     def past_text(self, name):
         return some([used_said(it, self.used[it][1]) for it in self.past[name]], 3)

@@ -142,10 +142,7 @@ class Summary:
 
     def devices_past(self, name):
         """Returns the devices that are past a ratio of the cluster afterwards."""
-        ratio = self.plan.cluster.ratios.get(name)
-        if ratio is None:
-            return []
-        return [it for it in self.devices if it.used_after is not None and it.used_after > fractions.Fraction(ratio) and it.used_after > it.used_before]
+        return [it for it in self.devices if self.plan.cluster.is_past(name, it.used_after) and it.used_after > it.used_before]
 
     def looks_at_room(self):
         """Returns whether the files say how full devices are, what pools take, and from which ratio
@@ -253,7 +250,6 @@ def fill(plan, changes, it):
     it.bytes_before = sum((change.bytes_of(change.before.entries.get(it.id, 0)) or 0 for change in changes), fractions.Fraction(0))
     it.bytes_after = sum((change.bytes_of(change.after.entries.get(it.id, 0)) or 0 for change in changes), fractions.Fraction(0))
     room = plan.cluster.rooms.get(it.id)
-    if room and room.size > 0:
-        it.used_before = fractions.Fraction(room.used, room.size)
+    if room:
         gained = sum(change.bytes_of(change.gains[it.id]) or 0 for change in changes)
-        it.used_after = fractions.Fraction(max(room.used + gained, 0)) / room.size
+        it.used_before, it.used_after = room.used_after(), room.used_after(gained)
