@@ -27,15 +27,6 @@ headline_of Latched latched old new left ms a b plays = headline_latched old new
 headline_of TooLong latched old new left ms a b plays = absurd plays
 headline_of ReadFault latched old new left ms a b plays = absurd plays
 
--- a script whose lines were served
-pub ends_served : (AsBefore : Type 0) (Says : ScriptEnd → List (Option Call) → Type 0) (end : ScriptEnd) (reads left from to : Option (List ℕ)) → IsServed end
-    → ServesScript (Says end) reads left → EndsScript AsBefore Says (Ok end) reads left from to
-ends_served AsBefore Says Done reads left from to is served = served
-ends_served AsBefore Says WriteFault reads left from to is served = served
-ends_served AsBefore Says Latched reads left from to is served = served
-ends_served AsBefore Says TooLong reads left from to is served = absurd is
-ends_served AsBefore Says ReadFault reads left from to is served = absurd is
-
 -- ---- what is met by the calls of messages that were served
 
 module _ (M N : List Call → List Reply → Type 0) (follows : (cs : List Call) (rs : List Reply) → M cs rs → N cs rs) (ms : List (Option Call)) (from to : Option (List ℕ)) where

@@ -16,14 +16,6 @@ pub walk-start : (t : TablesView) (x : ℕ) (rr : ℕ → ℕ) (wanted from : �
 unfolding reach
 walk-start t x rr wanted from = record { n = suc from; below = omega arith; same = refl }
 
-ends_empty : (t : TablesView) (x : ℕ) (rr : ℕ → ℕ) (wanted from bucket n : ℕ) → bucket < n
-    → reach t x rr wanted from ≡ reach_below t x rr wanted n bucket → (size_at t bucket == 0) ≡ true → reach t x rr wanted from ≡ Empty
-ends_empty t x rr wanted from bucket zero lt same e = absurd (omega arith)
-ends_empty t x rr wanted from bucket (suc n) lt same e = same ∙ rw e refl
-
-pub walk-empty : (t : TablesView) (x : ℕ) (rr : ℕ → ℕ) (wanted from bucket : ℕ) → GoesOn t x rr wanted from bucket → (size_at t bucket == 0) ≡ true → reach t x rr wanted from ≡ Empty
-walk-empty t x rr wanted from bucket on e = ends_empty t x rr wanted from bucket on.n on.below on.same e
-
 -- the rest of a walk after a pick
 pub record Picks (t : TablesView) (x : ℕ) (rr : ℕ → ℕ) (wanted from bucket : ℕ) (item : ItemId) (r : ℕ) : Type 0 where
   pub n : ℕ

@@ -101,9 +101,6 @@ next_mark t wanted p found b below lt marks =
     let less : k < b = number_below t b i k below lt few numbered in
     marks k less ∙ reach_same t wanted p p k (suc k) b k below (λ item low. refl) (omega arith) (omega arith) (omega arith) (omega arith)))
 
-pub none_marked : (t : TablesView) (wanted : ℕ) (p : ItemId → Bool) → IsMarked t wanted p 0 (replicate BUCKET_LIMIT false)
-none_marked t wanted p = record { long = length-replicate BUCKET_LIMIT false; each = λ k lt. absurd (omega arith) }
-
 -- one more mark
 pub more_marked : (t : TablesView) (wanted : ℕ) (p : ItemId → Bool) (found : List Bool) (b : ℕ) (mark : Bool) → b < BUCKET_LIMIT → IsMarked t wanted p b found
     → mark ≡ can_reach t wanted p b → IsMarked t wanted p (b + 1) (slice_set found b mark)

@@ -102,11 +102,6 @@ module _ {K V : Type 0} (f : V → ℕ) where
           let read : unwrap_or (option_map f (lookup (eq k) c.entries)) 0 ≡ f e.1 = ap (λ o. unwrap_or (option_map f o) 0) (sym found) in
           omega (arith, total-cons (e.0, v) (remove_entry (eq k) c.entries), total-removed (eq k) c.entries, out, read)
 
-  -- the sum is 0 where there is no last entry
-  pub total-none : (es : List (K × V)) → last_entry es ≡ None → total es ≡ 0
-  total-none [] none = refl
-  total-none (e ∷ es) none = absurd (true≢false (ap is_some (sym (slice_get-get_or (e ∷ es) (length (e ∷ es) - 1) e (omega arith)) ∙ none)))
-
   -- the last of the first entries goes, where they are too large
   pub fewer : (old es : List (K × V)) (bound : ℕ) → es ≡ take (length es) old → ((n : ℕ) → length es < n → n ≤ length old → bound < total (take n old)) → bound < total es
       → (take (length es - 1) es ≡ take (length (take (length es - 1) es)) old)

@@ -129,17 +129,6 @@ follows_damaged call old new r h bad same = record {
 
 -- ---- whatever the store did
 
-gives-up : (call : Call) (old new : States) (fault : StoreFault) → Same old new → (fault ≡ Damaged → Follows call old new store_damaged) → Serves call old new (store_fault fault)
-gives-up call old new NoMemory same damaged = inr (record { unavailable = inl refl; same = same })
-gives-up call old new Full same damaged = inr (record { unavailable = inr refl; same = same })
-gives-up call old new Failed same damaged = inr (record { unavailable = inr refl; same = same })
-gives-up call old new Damaged same damaged = inl (damaged refl)
-
-pub serves_fault : (call : Call) (old new : States) (fault : StoreFault) (replied : Reply) → Same old new → (fault ≡ Damaged → Follows call old new store_damaged)
-    → (replied ≡ store_fault fault) ⊎ (replied ≡ no_memory) → Serves call old new replied
-serves_fault call old new fault replied same damaged (inl is) = rw is (gives-up call old new fault same damaged)
-serves_fault call old new fault replied same damaged (inr is) = inr (record { unavailable = inl is; same = same })
-
 -- ---- a call of no tenant
 
 refusal-by : (call : Call) (asked : Result Request Problem) → request_of call ≡ asked → tenant_of call ≡ None → (s : Option TenantState)

@@ -18,12 +18,6 @@ appends_both (Some us) (Some vs) (Some ws) xs ys first second = rw (second, firs
 
 -- ---- up to a rest
 
-pub up_to_all : (a : Option (List ℕ)) (bytes : List ℕ) → AppendsUpTo bytes a a bytes
-up_to_all a bytes = record { front = []; all = refl; written = appends_none a }
-
-pub up_to_none : (a b : Option (List ℕ)) (bytes : List ℕ) → AppendsUpTo [] a b bytes → Appends a b bytes
-up_to_none a b bytes h = rw (sym h.all ∙ append-nil h.front) h.written
-
 -- a write of the first n bytes of the rest
 pub up_to_more : (a b c : Option (List ℕ)) (bytes rest : List ℕ) (n : ℕ) → AppendsUpTo rest a b bytes → Appends b c (take n rest)
     → AppendsUpTo (take (length rest - n) (drop n rest)) a c bytes

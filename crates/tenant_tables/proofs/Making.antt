@@ -179,9 +179,3 @@ made_bare s0 s1 s2 s3 s4 s5 s6 s7 s8 n1 n2 n3 n4 n5 n6 n7 n8 has one two three f
       );
       sound = last.sound;
     }
-
-pub bare_tables : (db : Database) → IsBare db → AreTables db.trees
-bare_tables db bare = record {
-  tenants = subst (IsShaped TableShape) (sym bare.tenants) (tt, tt);
-  others = all_weaker (λ t. rows_in t db.trees ≡ []) (λ t. IsShaped TableShape (rows_in t db.trees)) (λ t none. subst (IsShaped TableShape) (sym none) (tt, tt)) tables_of_tenants bare.others;
-}

@@ -17,9 +17,9 @@ loop-exception-preserved c =
 
 pub returns : goal.returns
 returns c =
-    let fits-id : SFits w64 c.args.id = search rules in
-    let fits-epoch : SFits w64 c.args.epoch = search rules in
-    let front = Raise c.args.id c.args.epoch ∷ pool_writes c.args.id c.args.pool.now in
+    let fits-id : SFits w64 c.args.accepted.now.id = search rules in
+    let fits-epoch : SFits w64 c.args.accepted.now.epoch = search rules in
+    let front = Raise c.args.accepted.now.id c.args.accepted.now.epoch ∷ pool_writes c.args.accepted.now.id c.args.pool.now in
     let all = take_all c.loop-exception.exception-index c.args.exceptions.now (omega arith) in
-    let items : c.loop-exception.writes.items ≡ front ++ exception_writes c.args.id c.args.exceptions.now = (simp to_z-of_z at c.loop-exception.invariant.written) ∙ ap (λ l. front ++ exception_writes c.args.id l) all in
-    (simp to_z-of_z at c.in_ok-push-6.ensures.items) ∙ ap (λ l. l ++ AddReceipt c.args.id c.args.receipt.now ∷ []) items ∙ append_assoc front (exception_writes c.args.id c.args.exceptions.now) (AddReceipt c.args.id c.args.receipt.now ∷ [])
+    let items : c.loop-exception.writes.items ≡ front ++ exception_writes c.args.accepted.now.id c.args.exceptions.now = (simp to_z-of_z at c.loop-exception.invariant.written) ∙ ap (λ l. front ++ exception_writes c.args.accepted.now.id l) all in
+    (simp to_z-of_z at c.in_ok-push-6.ensures.items) ∙ ap (λ l. l ++ AddReceipt c.args.accepted.now.id c.args.accepted.now.receipt ∷ []) items ∙ append_assoc front (exception_writes c.args.accepted.now.id c.args.exceptions.now) (AddReceipt c.args.accepted.now.id c.args.accepted.now.receipt ∷ [])

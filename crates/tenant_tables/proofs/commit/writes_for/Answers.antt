@@ -9,7 +9,7 @@ use Rattle.tenant_tables.proofs.RunFacts.{written_more}
 use Rattle.tenant_tables.proofs.commit.writes_for.Goals as goal
 
 pub loop-state-init : goal.loop-state-init
-loop-state-init c = record { written = c.in_ok-push.ensures.items ∙ ap (λ l. l ++ Raise (to_z w64 (of_z w64 c.args.id)) (to_z w64 (of_z w64 c.args.epoch)) ∷ []) c.new-writes.ensures.items }
+loop-state-init c = record { written = c.in_ok-push.ensures.items ∙ ap (λ l. l ++ Raise (to_z w64 (of_z w64 c.args.accepted.now.id)) (to_z w64 (of_z w64 c.args.accepted.now.epoch)) ∷ []) c.new-writes.ensures.items }
 
 pub loop-state-preserved : goal.loop-state-preserved
 loop-state-preserved c =
@@ -18,13 +18,13 @@ loop-state-preserved c =
     let fits : SFits w64 state.device = search rules in
     record {
       written = written_more _ _ c.args.states.now c.loop-state.state-index none c.loop-state.writes.items c.push-in-loop-state.new.self.items c.push-in-loop-state-2.new.self.items (omega arith) c.loop-state.invariant.written
-          (c.in_ok-push-2.ensures.items ∙ ap (λ n. c.loop-state.writes.items ++ ClearState (to_z w64 (of_z w64 c.args.id)) n ∷ []) (to_z-of_z w64 state.device fits)) c.in_ok-push-3.ensures.items;
+          (c.in_ok-push-2.ensures.items ∙ ap (λ n. c.loop-state.writes.items ++ ClearState (to_z w64 (of_z w64 c.args.accepted.now.id)) n ∷ []) (to_z-of_z w64 state.device fits)) c.in_ok-push-3.ensures.items;
     }
 
 pub returns : goal.returns
 returns c =
-    let fits-id : SFits w64 c.args.id = search rules in
-    let fits-epoch : SFits w64 c.args.epoch = search rules in
+    let fits-id : SFits w64 c.args.accepted.now.id = search rules in
+    let fits-epoch : SFits w64 c.args.accepted.now.epoch = search rules in
     let all = take_all c.loop-state.state-index c.args.states.now (omega arith) in
-    let items : c.loop-state.writes.items ≡ Raise c.args.id c.args.epoch ∷ state_writes c.args.id c.args.states.now = (simp to_z-of_z at c.loop-state.invariant.written) ∙ ap (λ l. Raise c.args.id c.args.epoch ∷ state_writes c.args.id l) all in
-    (simp to_z-of_z at c.in_ok-push-4.ensures.items) ∙ ap (λ l. l ++ AddReceipt c.args.id c.args.receipt.now ∷ []) items
+    let items : c.loop-state.writes.items ≡ Raise c.args.accepted.now.id c.args.accepted.now.epoch ∷ state_writes c.args.accepted.now.id c.args.states.now = (simp to_z-of_z at c.loop-state.invariant.written) ∙ ap (λ l. Raise c.args.accepted.now.id c.args.accepted.now.epoch ∷ state_writes c.args.accepted.now.id l) all in
+    (simp to_z-of_z at c.in_ok-push-4.ensures.items) ∙ ap (λ l. l ++ AddReceipt c.args.accepted.now.id c.args.accepted.now.receipt ∷ []) items
