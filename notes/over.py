@@ -5,7 +5,7 @@ waits for its turn. What was proved is kept in /work/stores/NAME-OF-TOP/CRATE an
 Flags: --only FUNCTION (repeat) checks some functions alone; none: the whole crate."""
 import resource, sys, pathlib, subprocess, tempfile, shutil, os, fcntl, time, filecmp
 sys.dont_write_bytecode = True
-SLOTS = 2
+SLOTS = 4
 LIBS = pathlib.Path('/work/libs')
 top = pathlib.Path(sys.argv[1]).absolute()
 if False:
