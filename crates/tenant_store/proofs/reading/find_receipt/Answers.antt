@@ -35,7 +35,7 @@ returns-clause-damaged g c clean same =
     let kept = c.in_ok-tenant.ensures.kept mid c.in_ok-tenant.ensures.latches in
     let tenant = c.in_ok-tenant.tenant in
     let fits : SFits w64 tenant.id = search rules in
-    let there = c.requires.there early in
+    let there = c.requires.there early (c.tenant_of.ensures.ready early) in
     let has = has_receipts old.trees c.args.name.now tenant there.0 (c.in_ok-tenant.ensures.names mid) there.1 in
     c.receipt_in.ensures.damaged same c.args.number.now there.0.receipts (of_tenant receipts_table tenant.id old.trees) has.rows has.ranges has.order
     (moved (λ db n. AreReceipt (receipts_with db n c.args.number.now) c.in_ok-row.row) _ _ _ _ kept (word_is tenant.id fits) (c.in_ok-row.ensures.found clean))
@@ -50,7 +50,7 @@ returns-in_err-row-clause-damaged g c clean same =
     let kept = c.in_ok-tenant.ensures.kept mid c.in_ok-tenant.ensures.latches in
     let tenant = c.in_ok-tenant.tenant in
     let fits : SFits w64 tenant.id = search rules in
-    let there = c.requires.there early in
+    let there = c.requires.there early (c.tenant_of.ensures.ready early) in
     let has = has_receipts old.trees c.args.name.now tenant there.0 (c.in_ok-tenant.ensures.names mid) there.1 in
     not_damaged c.args.number.now there.0.receipts (of_tenant receipts_table tenant.id old.trees) has.rows has.order has.ranges
     (moved (λ db n. (receipts_with db n c.args.number.now ≢ []) × ((row : Row) → IsReceiptRow row → receipts_with db n c.args.number.now ≢ row ∷ [])) _ _ _ _ kept (word_is tenant.id fits)
