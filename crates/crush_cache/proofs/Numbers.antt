@@ -21,7 +21,7 @@ slice_get-longer xs ys i x h =
 pub never : {X Y : Type 0} (x : X) → None ≡ Some x → Y
 never x h = cc
 
-some_one : {X : Type 0} (a b : X) → Some a ≡ Some b → a ≡ b
+pub some_one : {X : Type 0} (a b : X) → Some a ≡ Some b → a ≡ b
 some_one a b h = cc
 
 -- ---- a content that is found

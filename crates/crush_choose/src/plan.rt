@@ -97,14 +97,11 @@ impl<'a> Plan<'a> {
                 &mut rows.leaves,
             );
         }
-        append(
-            &mut rows.out,
-            if self.leaf {
-                rows.leaves.items()
-            } else {
-                rows.items.items()
-            },
-        );
+        if self.leaf {
+            append(&mut rows.out, rows.leaves.items());
+        } else {
+            append(&mut rows.out, rows.items.items());
+        }
     }
 
     /// Appends the output of one slot of the working list: nothing for a device or an empty slot.

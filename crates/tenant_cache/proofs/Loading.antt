@@ -2,7 +2,7 @@
 use Rattle.std.proofs.Common.{◌≡◌, ◌≢◌, ◌⊎◌, inl, inr, ◌↔◌, ◌∙◌, ℕ, List, Bool, true, false, Option, refl, ap, sym, subst, bytes_eq}
 use Rattle.std.proofs.lemmas.Slice.Eq.{bytes_eq-Decides}
 use Rattle.tenant_state.specs.State.{TenantState}
-use Rattle.tenant_core.specs.States.{Damaged, Found, HasState, LeavesAsItWas, LeavesAsItWasOr, Outcomes, Same, Shows, States}
+use Rattle.tenant_core.specs.States.{Damaged, Found, HasState, LeavesAsItWas, LeavesAsItWasOr, Outcomes, Shows, States}
 
 -- where the load fails for good, an opening finds the change that was made, and else each name as
 -- it was

@@ -1,9 +1,9 @@
 -- Numbers that are kept beside what tenants have, and placements by them.
-use Rattle.std.proofs.Common.{◌≡◌, ◌≢◌, ◌↔◌, ◌∙◌, ◌⊎◌, ◌==◌, inl, inr, ℕ, List, [], ◌∷◌, find, Bool, true, false, nat_lt, if◌then◌else◌, ok_or, option_map, Contains, Option, Some, None, IfSome, Ok, refl, sym, ap, subst, eqb-true}
+use Rattle.std.proofs.Common.{◌≡◌, ◌≢◌, ◌↔◌, ◌∙◌, ◌⊎◌, ◌==◌, inl, inr, ℕ, List, [], ◌∷◌, find, Bool, true, false, nat_lt, if◌then◌else◌, ok_or, option_map, Contains, Option, Some, None, Ok, refl, sym, ap, subst, eqb-true}
 use Rattle.std.specs.declared.alloc.Global.{Global}
 use Rattle.std.specs.declared.rc.Rc.{Rc}
 use Rattle.lru.proofs.Splits.{Contains-nil}
-use Rattle.crush_map.specs.Map.{Map}
+use Rattle.crush_map.specs.Map.{IsMap, Map}
 use Rattle.crush_map.specs.declared.draft.Rule.{Rule}
 use Rattle.crush_pool.specs.Placements.{placement, rule_numbered}
 use Rattle.crush_pool.specs.Placers.{PoolOnMap}
@@ -20,7 +20,6 @@ use Rattle.tenant_core.specs.Cached.{Asks, IsCachedFor}
 use Rattle.tenant_core.specs.States.{HasInventory, Same, States}
 use Rattle.tenant_core.specs.declared.cached.Asked.{Asked}
 use Rattle.tenant_core.specs.declared.cached.Asked.TheVariants as asked
-use Rattle.tenant_core.specs.declared.cached.Cached.{Cached}
 use Rattle.tenant_core.specs.declared.cached.Cached.TheVariants.{Placed, Touched}
 use Rattle.tenant_core.specs.declared.queries.Query.{Query}
 use Rattle.tenant_core.specs.declared.queries.Query.TheVariants.{Exceptions, Group, Impact, Moves, Object, Pick, Test, Usage, Version}
@@ -52,12 +51,16 @@ asked_pool (Usage q) i p it asks = absurd asks
 asked_pool (Pick pick) i p it asks = absurd asks
 asked_pool (Test test) i p it asks = absurd asks
 
--- ---- a pool on the newest version
+-- ---- a pool on a version
 
 ruled : (m : Map) (i : Inventory) (q : TenantPool) (p : PoolOnMap) (o : Option Rule)
     → ok_or (option_map (λ rule. record { map = m; states = i.devices; pool = q.parts; pairs = q.pairs }) o) NoRule ≡ Ok p → p ≡ record { map = m; states = i.devices; pool = q.parts; pairs = q.pairs }
 ruled m i q p None h = cc
 ruled m i q p (Some r) h = let same : Ok p ≡ Ok (record { map = m; states = i.devices; pool = q.parts; pairs = q.pairs }) = sym h in cc
+
+-- it is on a valid map where the version is one
+pub valid_on : (i : Inventory) (q : TenantPool) (m : Map) (p : PoolOnMap) → IsMap m → on_version i q m ≡ Ok p → IsMap p.map
+valid_on i q m p is on = subst IsMap (sym (ap (λ (r : PoolOnMap). r.map) (ruled m i q p (rule_numbered m q.parts.rule) on))) is
 
 pool_of : (i : Inventory) (q : TenantPool) (p : PoolOnMap) (o : Option Map) → if_there i q o ≡ Ok p → p.pool ≡ q.parts
 pool_of i q p None h = cc
