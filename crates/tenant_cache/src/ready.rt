@@ -20,7 +20,7 @@ pub struct Ready {
     /// The id of a pool and a number; the pair that was given last comes first.
     numbers: Vec<(u32, u64)>,
     /// How many bytes the inventory takes.
-    size: u64,
+    bytes: u64,
 }
 
 impl Model for Ready {
@@ -32,7 +32,7 @@ impl Model for Ready {
 
     ghost view = { λ a. record { inventory = a.inventory.value; numbers = a.numbers.items } };
 
-    ghost invariant = { λ a. a.size ≡ min (size a.inventory.value) (2 ^ 64 - 1) };
+    ghost invariant = { λ a. a.bytes ≡ min (size a.inventory.value) (2 ^ 64 - 1) };
 }
 
 impl Ready {
@@ -46,11 +46,11 @@ impl Ready {
     pub fn new(alloc: Global, inventory: Rc<Inventory>) -> Self
         ensures { result ≡ record { inventory = inventory.value; numbers = [] } }
     {
-        let size = inventory.size();
+        let bytes = inventory.size();
         Ready {
             inventory,
             numbers: Vec::new(alloc),
-            size,
+            bytes,
         }
     }
 
@@ -89,7 +89,7 @@ impl Ready {
         Ok(Ready {
             inventory: self.inventory.clone()?,
             numbers,
-            size: self.size,
+            bytes: self.bytes,
         })
     }
 
@@ -114,6 +114,6 @@ impl Ready {
     pub fn size(&self) -> u64
         ensures { result ≡ min (size self.now.inventory) (2 ^ 64 - 1) }
     {
-        self.size
+        self.bytes
     }
 }

@@ -131,7 +131,7 @@ made_rows (RemovedPool id) s is can =
 -- the rows that a change leaves are those of the state after it
 after_rows : (c : Change) (s : TenantState) (r : tables.Receipt) (e : ℕ) (db : Trees) (name : List ℕ) → IsInventory (inventory_of s) → CanTake c.made (inventory_of s)
     → receipt_of c.number s.receipts ≡ None → receipt_row r ≡ row_of_receipt (c.number, c.receipt) → e ≡ epoch s + 1
-    → Holds db name (record (write.with_receipt a.receipt (rows_with_made (pos (length s.versions + 1)) c.made (rows_of s))) { epoch = e }) → Holds db name (rows_of (after c s))
+    → Holds db name (record (write.with_receipt r (rows_with_made (pos (length s.versions + 1)) c.made (rows_of s))) { epoch = e }) → Holds db name (rows_of (after c s))
 after_rows c s r e db name is can new row raised held =
     let made = made_rows c.made s is can in
     let one_more : length (with_receipt c.number c.receipt s.receipts) ≡ suc (length s.receipts) = grown c.number c.receipt s.receipts new in

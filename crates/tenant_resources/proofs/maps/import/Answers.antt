@@ -1,4 +1,4 @@
-use Rattle.std.proofs.Common.{◌≡◌, ◌∙◌, length, true, false, nat_le, subst, arith}
+use Rattle.std.proofs.Common.{◌≡◌, length, true, false, nat_le, subst, arith}
 use Rattle.std.proofs.lemmas.Bool.Decides.{nat_tests}
 use Rattle.crush_text.specs.MapText.{IsRefusedFor, IsShort, IsTextOf}
 use Rattle.tenant_resources.proofs.Importing.{of_fault, of_map, of_rule_in_use}
@@ -34,4 +34,4 @@ returns-in_ok-import_reply-in-Ok-clause-given c =
     let own = subst (λ t. IsShort t × IsTextOf t c.in-Ok.map) c.as_bytes.ensures.value read in
     let has : has_rules_of c.args.inventory.now.pools c.in-Ok.map ≡ true = grind (arith, c.has_rules_in.ensures, c.if-not-has_rules_in.false) in
     of_map c.args.text.now c.args.inventory.now c.in-Ok.map c.in_ok-version-in-Ok.version.value _ few ((c.texts_are_read_as_they_say.ensures.map c.args.text.now c.in-Ok.map).1 own) has
-    (c.in_ok-version-in-Ok.ensures.ok ∙ c.in_ok-build-in-Ok.ensures) c.in_ok-import_reply-in-Ok.ensures
+    c.in_ok-version-in-Ok.ensures c.in_ok-import_reply-in-Ok.ensures
