@@ -1,5 +1,5 @@
 -- What a page of receipts says of the rows that it begins.
-use Rattle.std.proofs.Common.{◌≡◌, inl, inr, ◌↔◌, ℕ, pos, ◌+◌, ◌<◌, ◌≤◌, ℤ, List, [], ◌∷◌, ◌++◌, map, filter, length, get_or, string_bytes, Result, Err, Bool, true, false, nat_le, ◌&&◌, Option, Some, None, Ordering, Less, Equal, Greater, is_gt, IsPermutation, arith, refl, sym, ap, subst, ◌∙◌, length-append}
+use Rattle.std.proofs.Common.{◌≡◌, inl, inr, ◌↔◌, ℕ, pos, ◌+◌, ◌<◌, ◌≤◌, List, [], ◌∷◌, ◌++◌, map, filter, length, get_or, string_bytes, Result, Err, Bool, true, false, nat_le, ◌&&◌, Option, Some, None, Ordering, Less, Equal, Greater, is_gt, IsPermutation, arith, refl, sym, ap, subst, ◌∙◌, length-append}
 use Rattle.std.specs.List.{AllByRecursion, list_all}
 use Rattle.std.specs.Ordering.{ordering_reverse}
 use Rattle.std.proofs.lemmas.List.{map-append, map_push, length-map, append-nil}

@@ -1,6 +1,6 @@
 -- A name stands for a state where what the state has and its receipts are the tenant's, and then
 -- alone.
-use Rattle.std.proofs.Common.{◌≡◌, ◌≤◌, ℕ, ℤ, pos, List, length, map, true, Option, Some, None, sym, ap, ◌∙◌, subst, IsPermutation}
+use Rattle.std.proofs.Common.{◌≡◌, ◌≤◌, ℕ, ℤ, pos, List, length, map, true, Some, sym, ap, ◌∙◌, subst, IsPermutation}
 use Rattle.std.specs.List.{list_all}
 use Rattle.sqlite_value.specs.declared.value.Value.TheVariants.{Int}
 use Rattle.sqlite_value.specs.Order.{column}

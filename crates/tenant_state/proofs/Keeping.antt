@@ -10,12 +10,9 @@ use Rattle.std.specs.Ordering.{is_lt, match_ordering}
 use Rattle.std.specs.Prelude.{String}
 use Rattle.std.specs.declared.alloc.Global.{Global}
 use Rattle.std.specs.declared.rc.Rc.{Rc}
-use Rattle.crush_map.specs.Map.{Map}
-use Rattle.crush_pool.specs.declared.states.DeviceState.{DeviceState}
 use Rattle.tenant_state.proofs.Ordering.{before_rest}
 use Rattle.tenant_state.specs.Ordered.{is_ascending, is_before_first}
 use Rattle.tenant_state.specs.Receipts.{Receipts, is_before, receipt_of, with_receipt}
-use Rattle.tenant_state.specs.State.{Inventory, TenantPool}
 use Rattle.tenant_state.specs.declared.receipts.Receipt.{Receipt}
 
 abbrev Kept : Type 0

@@ -1,4 +1,4 @@
-use Rattle.std.proofs.Common.{◌≡◌, ◌+◌, Some, position, ap, sym, ◌∙◌}
+use Rattle.std.proofs.Common.{◌≡◌, ◌+◌, Some, position, ap, refl, sym, ◌∙◌}
 use Rattle.crush_content.specs.Contents.{content_eq}
 use Rattle.crush_cache.proofs.Found.{some_weaker}
 use Rattle.crush_cache.proofs.Numbers.{never, number_of-found, some_one, was_number}
@@ -17,7 +17,7 @@ pub returns-in-Some-clause-found : goal.returns-in-Some-clause-found
 returns-in-Some-clause-found c = λ i h.
     let contents : c.as_slice.result.now ≡ c.args.self.now.contents = c.as_slice.ensures.value ∙ ap (λ k. k.contents) c.self.view_is in
     let place : c.in-Some.place ≡ i = some_one _ _ (sym c.in-Some.is ∙ (c.place_of.ensures ∙ (ap (position (λ d. content_eq d c.args.content)) contents ∙ h))) in
-    (ap (λ p. Some (c.self.inside.first + p)) place ∙ ap (λ k. Some (k.first + i)) c.self.view_is, c.self.view_is)
+    (ap (λ p. Some (c.self.inside.first + p)) place ∙ ap (λ k. Some (k.first + i)) c.self.view_is, refl)
 
 pub returns-in-None-clause-given : goal.returns-in-None-clause-given
 returns-in-None-clause-given c = some_weaker _ _ (λ n h. was_number c.add.new.self n c.args.content h) c.add.result c.add.ensures.number

@@ -1,4 +1,4 @@
-use Rattle.std.proofs.Common.{◌≡◌, ◌-◌, ◌^◌, ◌∙◌, List, map, min, ap, sym}
+use Rattle.std.proofs.Common.{◌-◌, ◌^◌, ◌∙◌, List, min, ap, sym}
 use Rattle.std.specs.List.{sum_by}
 use Rattle.tenant_state.proofs.Keeping.{same_shared}
 use Rattle.tenant_state.specs.Size.{pool_size}
