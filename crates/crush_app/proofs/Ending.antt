@@ -9,7 +9,6 @@ use Rattle.crush_app.proofs.Inputs.{of_script}
 use Rattle.crush_app.proofs.Playing.{headline_latched, headline_part, headline_whole}
 use Rattle.crush_app.specs.End.{EndsScript, IsTooLong, ServesNothing, ServesScript}
 use Rattle.crush_app.specs.Play.{PlaysBy, PlaysTo, PlaysUpToBy, WritesFirst, WritesHeadline}
-use Rattle.crush_app.specs.Private.Ending.{IsServed}
 use Rattle.crush_app.specs.Script.{messages}
 use Rattle.crush_app.specs.declared.play.ScriptEnd.{ScriptEnd}
 use Rattle.crush_app.specs.declared.play.ScriptEnd.TheVariants.{Done, Latched, TooLong, ReadFault, WriteFault}

@@ -1,8 +1,7 @@
 -- An input that is read up to a limit, and what is said of it.
-use Rattle.std.proofs.Common.{◌≡◌, ℕ, ◌+◌, ◌≤◌, ◌<◌, List, ◌++◌, length, Option, Some, None, IfSome, refl, subst, sym, ap, ◌∙◌, arith, length-append}
+use Rattle.std.proofs.Common.{◌≡◌, ℕ, ◌+◌, ◌≤◌, ◌<◌, List, ◌++◌, length, Option, Some, None, refl, sym, ap, ◌∙◌, arith, length-append}
 use Rattle.std.proofs.lemmas.List.{append-nil}
 use Rattle.tenant_service.specs.Input.{OfInput}
-use Rattle.crush_app.specs.declared.limits.TheConstants.{SCRIPT_LIMIT}
 use Rattle.crush_app.specs.Script.{OfScript}
 use Rattle.crush_app.specs.Private.Reading.{IsReadUpTo}
 

@@ -1,9 +1,9 @@
 -- What is taken from a reader, from call to call.
-use Rattle.std.proofs.Common.{◌≡◌, ℕ, ◌+◌, ◌-◌, ◌≤◌, ◌<◌, List, [], ◌∷◌, ◌++◌, length, take, drop, Option, Some, None, refl, ap, sym, ◌∙◌, arith, append_assoc, length-take, length-append, length-drop, subst}
-use Rattle.std.proofs.lemmas.List.{append-nil, take-append-le, take-append-drop, drop-take, drop-append-le, drop_all}
+use Rattle.std.proofs.Common.{◌≡◌, ℕ, ◌+◌, ◌-◌, ◌≤◌, ◌<◌, List, [], ◌∷◌, ◌++◌, length, take, drop, Option, Some, None, refl, ap, sym, ◌∙◌, arith, append_assoc, length-take, length-drop, subst}
+use Rattle.std.proofs.lemmas.List.{append-nil, take-append-le, drop-take, drop-append-le}
 use Rattle.std.proofs.Math.Seq.{take-append-add, take-append_seam}
 use Rattle.std.specs.Io.KnownBytes.{Keeps, Consumes}
-use Rattle.crush_http.specs.Private.Reading.{ReadsOn, IsBodyOf}
+use Rattle.crush_http.specs.Private.Reading.{ReadsOn}
 
 -- ---- readers
 

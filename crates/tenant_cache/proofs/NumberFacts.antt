@@ -3,7 +3,7 @@ use Rattle.std.proofs.Common.{◌≡◌, ◌≢◌, ◌↔◌, ◌∙◌, ◌⊎
 use Rattle.std.specs.declared.alloc.Global.{Global}
 use Rattle.std.specs.declared.rc.Rc.{Rc}
 use Rattle.lru.proofs.Splits.{Contains-nil}
-use Rattle.crush_map.specs.Map.{IsMap, Map}
+use Rattle.crush_map.specs.Map.{Map}
 use Rattle.crush_map.specs.declared.draft.Rule.{Rule}
 use Rattle.crush_pool.specs.Placements.{placement, rule_numbered}
 use Rattle.crush_pool.specs.Placers.{PoolOnMap}
@@ -51,16 +51,12 @@ asked_pool (Usage q) i p it asks = absurd asks
 asked_pool (Pick pick) i p it asks = absurd asks
 asked_pool (Test test) i p it asks = absurd asks
 
--- ---- a pool on a version
+-- ---- a pool on the newest version
 
 ruled : (m : Map) (i : Inventory) (q : TenantPool) (p : PoolOnMap) (o : Option Rule)
     → ok_or (option_map (λ rule. record { map = m; states = i.devices; pool = q.parts; pairs = q.pairs }) o) NoRule ≡ Ok p → p ≡ record { map = m; states = i.devices; pool = q.parts; pairs = q.pairs }
 ruled m i q p None h = cc
 ruled m i q p (Some r) h = let same : Ok p ≡ Ok (record { map = m; states = i.devices; pool = q.parts; pairs = q.pairs }) = sym h in cc
-
--- it is on a valid map where the version is one
-pub valid_on : (i : Inventory) (q : TenantPool) (m : Map) (p : PoolOnMap) → IsMap m → on_version i q m ≡ Ok p → IsMap p.map
-valid_on i q m p is on = subst IsMap (sym (ap (λ (r : PoolOnMap). r.map) (ruled m i q p (rule_numbered m q.parts.rule) on))) is
 
 pool_of : (i : Inventory) (q : TenantPool) (p : PoolOnMap) (o : Option Map) → if_there i q o ≡ Ok p → p.pool ≡ q.parts
 pool_of i q p None h = cc

@@ -26,13 +26,13 @@ pub struct Ready {
 impl Model for Ready {
     ghost use Rattle.std.specs.Prelude.{◌≡◌, ◌-◌, ◌^◌, min};
     ghost use Rattle.tenant_cache.specs.Kept.{Ready};
-    ghost use Rattle.tenant_state.specs.Size.{size};
+    ghost use Rattle.tenant_state.specs.Size as spec;
 
     ghost Value = { Ready };
 
     ghost view = { λ a. record { inventory = a.inventory.value; numbers = a.numbers.items } };
 
-    ghost invariant = { λ a. a.bytes ≡ min (size a.inventory.value) (2 ^ 64 - 1) };
+    ghost invariant = { λ a. a.bytes ≡ min (spec.size a.inventory.value) (2 ^ 64 - 1) };
 }
 
 impl Ready {

@@ -13,15 +13,14 @@ use Rattle.tenant_core.specs.Request.{Request, tenant_in, on_route, on_target, r
 use Rattle.tenant_core.specs.declared.route.Route.{Route}
 use Rattle.tenant_state.specs.State.{TenantState}
 use Rattle.store_faults.specs.declared.StoreFault.{StoreFault}
-use Rattle.store_faults.specs.declared.StoreFault.TheVariants.{NoMemory, Full, Damaged, Failed}
 use Rattle.tenant_messages.specs.Reply.{refused, reply}
 use Rattle.tenant_core.specs.Route.{read, route_of}
 use Rattle.tenant_core.specs.Router.{target_of}
 use Rattle.tenant_core.specs.Target.{Target, methods_in}
-use Rattle.tenant_core.specs.States.{States, HasState, IsDamaged, LeavesStep, Outcomes, Same, Follows, Serves, Shows}
+use Rattle.tenant_core.specs.States.{States, HasState, IsDamaged, LeavesStep, Outcomes, Same, Follows, Shows}
 use Rattle.tenant_core.specs.Effects.{after_effect}
 use Rattle.tenant_core.specs.Step.{Step, decision, decision_or_refusal, step_of, step, tenant_of, is_of}
-use Rattle.tenant_core.specs.StoreReply.{no_memory, store_damaged, store_fault, refused_or_damaged}
+use Rattle.tenant_core.specs.StoreReply.{store_damaged, refused_or_damaged}
 use Rattle.tenant_core.specs.Private.Performing.{LeavesRequest, Performs, HasOneState}
 use Rattle.tenant_core.proofs.Replying.{reply-answered, damaged-answered}
 

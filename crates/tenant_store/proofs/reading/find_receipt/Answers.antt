@@ -1,8 +1,7 @@
-use Rattle.std.proofs.Common.{◌≢◌, [], ◌∷◌, arith, rules, subst}
+use Rattle.std.proofs.Common.{◌≢◌, [], ◌∷◌, arith, rules}
 use Rattle.std.proofs.lemmas.Result.{err_from_is_err_and}
 use mir.Syntax.{w64}
 use mir.Val.{SFits}
-use Rattle.sqlite.specs.Effect.{Database}
 use Rattle.sqlite.specs.Held.{state}
 use Rattle.sqlite.specs.State.{HasCleanDisk}
 use Rattle.sqlite_value.specs.Order.{Row}
