@@ -13,7 +13,6 @@ use Rattle.tenant_reports.specs.Moves.{moves_on, moves_reply, rows_of}
 use Rattle.tenant_resources.specs.Groups.{group_on, group_reply, object_on, object_reply, placed}
 use Rattle.tenant_core.specs.Cached.{Asks, IsCachedFor}
 use Rattle.tenant_core.specs.Queries.{answer}
-use Rattle.tenant_core.specs.declared.cached.Asked.{Asked}
 use Rattle.tenant_core.specs.declared.cached.Asked.TheVariants as asks
 use Rattle.tenant_core.specs.declared.cached.Cached.{Cached}
 use Rattle.tenant_core.specs.declared.cached.Cached.TheVariants.{Placed, Touched, Moved}

@@ -1,6 +1,5 @@
 -- What is said of the connection is said of the store's.
 use Rattle.std.proofs.Common.{subst, sym}
-use Rattle.sqlite_wal.specs.Reads.{AreClean}
 use Rattle.sqlite.specs.Closing.{IsCopied}
 use Rattle.tenant_files.proofs.ClosedFacts.{honest_before, is_left}
 use Rattle.tenant_files.specs.Closed.{IsLeft}

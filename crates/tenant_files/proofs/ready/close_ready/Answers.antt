@@ -1,6 +1,5 @@
 -- What is said of the store below is said of the ready store.
-use Rattle.std.proofs.Common.{◌∙◌, IfErr, ap, subst, sym}
-use Rattle.std.proofs.lemmas.Bool.{false≢true}
+use Rattle.std.proofs.Common.{◌∙◌, IfErr, ap, subst}
 use Rattle.sqlite.specs.Files.{file_state, over_files}
 use Rattle.sqlite.specs.State.{HasCleanDisk}
 use Rattle.tenant_store.specs.Shown.{IsHonest}
