@@ -94,7 +94,6 @@ still_works first last (Err WriteFault) AsBefore P most from to worked latch sai
 -- ---- over files
 
 module _ {D : Type 0} (g : disk.Ghosts D) (first : Held (FileStore D g)) (end : Result (Unit {0}) ServerFault) (files : Files D) (most : ℕ) (from to : Option Clients) where
-
   abbrev OnFiles : Held (FileStore D g) → List Call → List Reply → Type 0
   OnFiles last calls replies =
       AreClean g files.log files.db

@@ -40,7 +40,7 @@ returns-in_err-page-2-clause-damaged g c clean damaged = λ receipts h.
     let trees = ap (λ (d : Database). d.trees) (c.loop-rest.invariant.same early) in
     let left = decides.0 (receipts_are db c.args.tenant.now c.in-Ok.number receipts number h) in
     let rows = ap₂ (λ t d. rows_above t (of_tenant receipts_table (to_z w64 (of_z w64 c.args.tenant.now.id)) d)) c.as_str.ensures.value trees
-        ∙ ap (λ n. rows_above (string_bytes c.in-Some.more.after) (of_tenant receipts_table n db)) (to_z-of_z w64 c.args.tenant.now.id fits) in
+    ∙ ap (λ n. rows_above (string_bytes c.in-Some.more.after) (of_tenant receipts_table n db)) (to_z-of_z w64 c.args.tenant.now.id fits) in
     unlisted _ c.in-Some.more.left (c.in_err-page-2.ensures.damaged clean (ap Err fault)) (subst (AreReceipts c.in-Some.more.left) (sym rows) left)
 
 -- one more page
@@ -59,7 +59,7 @@ loop-rest-preserved g c = record {
       let all : List Row = of_tenant receipts_table c.args.tenant.now.id db in
       let later : List Row = rows_above (string_bytes c.in-Some.more.after) all in
       let rows = ap₂ (λ t d. rows_above t (of_tenant receipts_table (to_z w64 (of_z w64 c.args.tenant.now.id)) d)) c.as_str.ensures.value trees
-          ∙ ap (λ n. rows_above (string_bytes c.in-Some.more.after) (of_tenant receipts_table n db)) (to_z-of_z w64 c.args.tenant.now.id fits) in
+      ∙ ap (λ n. rows_above (string_bytes c.in-Some.more.after) (of_tenant receipts_table n db)) (to_z-of_z w64 c.args.tenant.now.id fits) in
       let found = subst (λ l. Begins 16 l (map receipt_values c.in_ok-page-2.page.items)) rows (c.in_ok-page-2.ensures.found clean) in
       let next = c.in_ok-rest-2.ensures.leaves all later (inr (string_bytes c.in-Some.more.after, refl)) found in
       chained all all later c.in-Ok.number c.in-Some.more.left c.in_ok-rest-2.rest decides next;
