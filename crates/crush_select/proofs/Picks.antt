@@ -6,7 +6,7 @@ use Rattle.crush_types.specs.declared.Kind.{Kind}
 use Rattle.crush_types.specs.declared.Kind.TheVariants.{Uniform, List as ListKind, Tree}
 use Rattle.crush_kinds.specs.Bucket.{BucketView, WeightedItem}
 use Rattle.crush_kinds.specs.Pickable.{weighs, pickable_as, pickable}
-use Rattle.crush_select.specs.Private.Reachable.{picks_by_weight, without_weights}
+use Rattle.crush_select.specs.Private.Reachable.{picks_by_weight}
 
 -- an item weighs at least 1 where it weighs something, and each weighs at least 0
 one_weighs : (n : ℕ) → nat_le 1 n ≡ nat_lt 0 n

@@ -1,6 +1,6 @@
 //! `choose indep`: items are chosen at fixed positions; one that can't be filled stays empty.
 
-ghost use Rattle.std.specs.Prelude.{◌≡◌, ◌<◌, ◌≤◌, ◌+◌, ◌++◌, ◌||◌, ◌^◌, nat_le, length, map, None, is_some, replicate};
+ghost use Rattle.std.specs.Prelude.{◌≡◌, ◌<◌, ◌≤◌, ◌+◌, ◌||◌, ◌^◌, nat_le, length, map, None, is_some, replicate};
 ghost use Rattle.std.specs.List.{list_all};
 ghost use Rattle.crush_bucket.specs.Tables.{scratch_of, bucket_numbered};
 ghost use Rattle.crush_select.specs.Marks.{Marks, item_at, leaf_at};
