@@ -79,7 +79,7 @@ class AfterDrain:
     def find_too_full(self):
         cluster, found = self.plan.cluster, []
         for device, room in sorted(cluster.rooms.items()):
-            gained = total(change.bytes_of(gains_[device]) for change, gains_ in self.weight_first.gains if gains_[device])
+            gained = total(change.bytes_of(copies[device]) for change, copies in self.weight_first.gains if copies[device])
             if gained is not None and gained > 0 and cluster.is_past("backfillfull_ratio", room.used_after(gained)):
                 found.append((device, room.used_after(gained)))
         return found
