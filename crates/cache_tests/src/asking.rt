@@ -189,7 +189,10 @@ fn number_of(rt: &impl Abort, cache: &mut PlacementCache, content: &Content) -> 
     ensures number { WasNumberOf cache.new result content.now }
     ensures kept { KeepsNumbers cache.old cache.new }
 {
-    match cache.number_of(content) {
+    let Ok(again) = content.share() else {
+        return rt.abort();
+    };
+    match cache.number_of(again) {
         Some(number) => number,
         None => rt.abort(),
     }
@@ -255,7 +258,7 @@ fn content_with(
     ensures { IfOk result (λ content. content ≡ record { text = canonical map.now; states = states.now; pool = pool.now.value; pairs = exceptions.now }) }
 {
     let text = text_of(rt, alloc, map)?;
-    Ok(Content::new(text, states.share()?, pool.clone()?, exceptions.share()?))
+    Content::new(&text, states, pool, exceptions)
 }
 
 /// Asks a cache for the placement of a group by what was made for it.
@@ -350,7 +353,8 @@ pub(crate) fn give_numbers(
         let states = SharedStates::new(Vec::new(alloc))?;
         let pool = Rc::new(alloc, pool_of(rt, alloc, &asked)?)?;
         let exceptions = SharedExceptions::new(alloc, Exceptions::none(alloc)?)?;
-        number_of(rt, cache, &Content::new(text, states, pool, exceptions));
+        let content = Content::new(&text, &states, &pool, &exceptions)?;
+        number_of(rt, cache, &content);
     }
     Ok(())
 }

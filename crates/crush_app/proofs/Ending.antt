@@ -9,7 +9,6 @@ use Rattle.crush_app.proofs.Inputs.{of_script}
 use Rattle.crush_app.proofs.Playing.{headline_latched, headline_part, headline_whole}
 use Rattle.crush_app.specs.End.{EndsScript, IsTooLong, ServesNothing, ServesScript}
 use Rattle.crush_app.specs.Play.{PlaysBy, PlaysTo, PlaysUpToBy, WritesFirst, WritesHeadline}
-use Rattle.crush_app.specs.Private.Ending.{IsServed}
 use Rattle.crush_app.specs.Script.{messages}
 use Rattle.crush_app.specs.declared.play.ScriptEnd.{ScriptEnd}
 use Rattle.crush_app.specs.declared.play.ScriptEnd.TheVariants.{Done, Latched, TooLong, ReadFault, WriteFault}
@@ -26,15 +25,6 @@ headline_of WriteFault latched old new left ms a b plays = headline_part latched
 headline_of Latched latched old new left ms a b plays = headline_latched old new left ms a b plays
 headline_of TooLong latched old new left ms a b plays = absurd plays
 headline_of ReadFault latched old new left ms a b plays = absurd plays
-
--- a script whose lines were served
-pub ends_served : (AsBefore : Type 0) (Says : ScriptEnd → List (Option Call) → Type 0) (end : ScriptEnd) (reads left from to : Option (List ℕ)) → IsServed end
-    → ServesScript (Says end) reads left → EndsScript AsBefore Says (Ok end) reads left from to
-ends_served AsBefore Says Done reads left from to is served = served
-ends_served AsBefore Says WriteFault reads left from to is served = served
-ends_served AsBefore Says Latched reads left from to is served = served
-ends_served AsBefore Says TooLong reads left from to is served = absurd is
-ends_served AsBefore Says ReadFault reads left from to is served = absurd is
 
 -- ---- what is met by the calls of messages that were served
 

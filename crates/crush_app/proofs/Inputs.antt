@@ -1,8 +1,7 @@
 -- An input that is read up to a limit, and what is said of it.
-use Rattle.std.proofs.Common.{◌≡◌, ℕ, ◌+◌, ◌≤◌, ◌<◌, List, ◌++◌, length, Option, Some, None, IfSome, refl, subst, sym, ap, ◌∙◌, arith, length-append}
+use Rattle.std.proofs.Common.{◌≡◌, ℕ, ◌+◌, ◌≤◌, ◌<◌, List, ◌++◌, length, Option, Some, None, refl, sym, ap, ◌∙◌, arith, length-append}
 use Rattle.std.proofs.lemmas.List.{append-nil}
 use Rattle.tenant_service.specs.Input.{OfInput}
-use Rattle.crush_app.specs.declared.limits.TheConstants.{SCRIPT_LIMIT}
 use Rattle.crush_app.specs.Script.{OfScript}
 use Rattle.crush_app.specs.Private.Reading.{IsReadUpTo}
 
@@ -25,22 +24,6 @@ long_input limit bytes (Some xs) (Some ys) read long = record { input = xs; same
 -- what follows from what holds of an input holds of it too
 pub of_input : (known : Option (List ℕ)) {P Q : List ℕ → Type 0} → ((input : List ℕ) → P input → Q input) → OfInput known P → OfInput known Q
 of_input known follows said = record { input = said.input; same = said.same; holds = follows said.input said.holds }
-
--- what holds of an input holds of known bytes
-of_known : (known : Option (List ℕ)) (P : List ℕ → Type 0) → OfInput known P → IfSome known P
-of_known None P said = tt
-of_known (Some xs) P said = subst P said.same said.holds
-
--- what holds of the bytes that were read
-pub of_read : (known : Option (List ℕ)) (P : List ℕ → Type 0) (read : List ℕ) → OfInput known (λ input. (read ≡ input) × (length input ≤ SCRIPT_LIMIT)) → P read → OfScript known P
-of_read known P read said holds = of_input known (λ input both. (both.1, subst P both.0 holds)) said
-
--- known bytes are then within the limit, or longer
-pub known_short : (known : Option (List ℕ)) (read : List ℕ) (limit : ℕ) → OfInput known (λ input. (read ≡ input) × (length input ≤ limit)) → IfSome known (λ input. length input ≤ limit)
-known_short known read limit said = of_known known (λ input. length input ≤ limit) (of_input known (λ input both. both.1) said)
-
-pub known_long : (known : Option (List ℕ)) (limit : ℕ) → OfInput known (λ input. limit < length input) → IfSome known (λ input. limit < length input)
-known_long known limit said = of_known known (λ input. limit < length input) said
 
 -- what follows from what holds of a script holds of it too
 pub of_script : (known : Option (List ℕ)) {P Q : List ℕ → Type 0} → ((input : List ℕ) → P input → Q input) → OfScript known P → OfScript known Q

@@ -130,9 +130,6 @@ pub record PlaysRest (old mid : States) (a b : Option (List ℕ)) (input rest : 
   pub all : done ++ messages rest ≡ messages input
   pub plays : Plays false old mid done a b
 
-pub rest_whole : (old : States) (a : Option (List ℕ)) (input : List ℕ) → PlaysRest old old a a input input
-rest_whole old a input = record { done = []; all = refl; plays = plays_none old a }
-
 pub messages-line : (rest line after : List ℕ) → lines rest ≡ line ∷ lines after → messages rest ≡ messages_in (line ∷ []) ++ messages after
 messages-line rest line after h = ap messages_in h ∙ messages_in-front line (lines after)
 

@@ -21,7 +21,7 @@ slice_get-longer xs ys i x h =
 pub never : {X Y : Type 0} (x : X) → None ≡ Some x → Y
 never x h = cc
 
-some_one : {X : Type 0} (a b : X) → Some a ≡ Some b → a ≡ b
+pub some_one : {X : Type 0} (a b : X) → Some a ≡ Some b → a ≡ b
 some_one a b h = cc
 
 -- ---- a content that is found
@@ -64,8 +64,8 @@ last first cs p =
     (omega arith, subst (λ i. slice_get (cs ++ p ∷ []) i ≡ Some p) at (slice_get-cut cs p []))
 
 -- it has the next number
-pub number_of-last : (first : ℕ) (cs : List Content) (p : Content) (len : ℕ) (q : Content) → len ≡ length cs → p ≡ q → IsNumberOf (more first cs p) (first + len) q
-number_of-last first cs p len q l e = subst (λ r. IsNumberOf (more first cs p) (first + len) r) e (subst (λ n. IsNumberOf (more first cs p) (first + n) p) (sym l) (last first cs p))
+pub number_of-last : (first : ℕ) (cs : List Content) (p : Content) (len : ℕ) → len ≡ length cs → IsNumberOf (more first cs p) (first + len) p
+number_of-last first cs p len l = subst (λ n. IsNumberOf (more first cs p) (first + n) p) (sym l) (last first cs p)
 
 pub are_numbered-more : (first : ℕ) (cs : List Content) (p : Content) (len : ℕ) → len ≡ length cs → AreNumbered (numbered first cs) → length cs < 256 → (first + len ≡ 18446744073709551615 → ⊥) → AreNumbered (more first cs p)
 are_numbered-more first cs p len l are few left =

@@ -1,6 +1,7 @@
 //! The cache.
 
 ghost use Rattle.std.specs.Prelude.{◌≡◌, ◌+◌, ◌<◌, [], ℕ, Some, IfOk, IfErr, IfSome, is_ok, length, nat_le, nat_lt, position};
+ghost use Rattle.crush_map.specs.Map.{IsMap};
 ghost use Rattle.crush_pool.specs.Placements.{placement};
 ghost use Rattle.crush_cache.specs.Caches.{IsNumberOf, KeepsNumbers, WasNumberOf};
 ghost use Rattle.crush_content.specs.Contents.{Content, content_eq, content_of};
@@ -67,8 +68,9 @@ fn place_anew(
     ensures there { IfOk result (λ answer. is_ok answer ≡ nat_lt group placer.now.pool.pg_num) }
     ensures placed { IfOk result (λ answer. IfOk answer (λ p. placement placer.now.map placer.now.states placer.now.pool placer.now.pairs group ≡ Some p.value)) }
     ensures fault { IfOk result (λ answer. IfErr answer (λ fault. fault ≡ PoolFault.P2)) }
+    ensures map { IsMap placer.now.map }
 {
-    if group >= placer.pool().parts().pg_num {
+    if group >= placer.pool_parts().pg_num {
         return Ok(Err(PoolFault::P2));
     }
     let mut scratch = Scratch::build(alloc, placer.tables())?;
@@ -105,19 +107,16 @@ impl PlacementCache {
     }
 
     /// Gives a content the next number. `None`: no number is left, or an allocation failed.
-    fn add(&mut self, content: &Content) -> Option<u64>
+    fn add(&mut self, content: Content) -> Option<u64>
         requires { length self.old.contents < CONTENT_LIMIT }
-        ensures number { IfSome result (λ n. IsNumberOf self.new n content.now) }
+        ensures number { IfSome result (λ n. IsNumberOf self.new n content) }
         ensures kept { KeepsNumbers self.old self.new }
     {
         let number = self.first + self.contents.len() as u64;
         if number == u64::MAX {
             return None;
         }
-        let Ok(again) = content.share() else {
-            return None;
-        };
-        match self.contents.push(again) {
+        match self.contents.push(content) {
             Ok(()) => {}
             Err(_) => return None,
         }
@@ -127,13 +126,13 @@ impl PlacementCache {
     /// Returns the number of a content, a new one where the content isn't there. The content is
     /// compared, whole, with those that have its hash. `None`: it can't be kept, since no number
     /// is left or an allocation failed.
-    pub fn number_of(&mut self, content: &Content) -> Option<u64>
-        ensures number { IfSome result (λ n. IsNumberOf self.new n content.now) }
-        ensures given { IfSome result (λ n. WasNumberOf self.new n content.now) }
+    pub fn number_of(&mut self, content: Content) -> Option<u64>
+        ensures number { IfSome result (λ n. IsNumberOf self.new n content) }
+        ensures given { IfSome result (λ n. WasNumberOf self.new n content) }
         ensures kept { KeepsNumbers self.old self.new }
-        ensures found { (i : ℕ) → position (λ c. content_eq c content.now) self.old.contents ≡ Some i → (result ≡ Some (self.old.first + i)) × (self.new ≡ self.old) }
+        ensures found { (i : ℕ) → position (λ c. content_eq c content) self.old.contents ≡ Some i → (result ≡ Some (self.old.first + i)) × (self.new ≡ self.old) }
     {
-        match place_of(self.contents.as_slice(), content) {
+        match place_of(self.contents.as_slice(), &content) {
             Some(place) => Some(self.first + place as u64),
             None => {
                 self.make_room();
@@ -181,7 +180,6 @@ impl PlacementCache {
     {
         // a placement by this map is one by each map with its text, since that is this map alone
         canonical_texts_are_read();
-        let _tunables = placer.map().tunables();
         let answer = place_anew(self.alloc, placer, group)?;
         if let Ok(placement) = &answer {
             if let Ok(again) = placement.clone() {
@@ -227,9 +225,7 @@ impl PlacementCache {
         ensures fault { IfOk result (λ answer. IfErr answer (λ fault. fault ≡ PoolFault.P2)) }
         ensures same { self.new ≡ self.old }
     {
-        // any reader of a map also gives the prover that it is valid, which the clauses need
-        let _tunables = placer.map().tunables();
-        if group >= placer.pool().parts().pg_num {
+        if group >= placer.pool_parts().pg_num {
             return Ok(Err(PoolFault::P2));
         }
         if !self.is_kept(number, group) {
@@ -258,7 +254,10 @@ impl PlacementCache {
         ensures fault { IfOk result (λ answer. IfErr answer (λ fault. fault ≡ PoolFault.P2)) }
         ensures kept { KeepsNumbers self.old self.new }
     {
-        match self.number_of(content) {
+        let Ok(again) = content.share() else {
+            return place_anew(self.alloc, placer, group);
+        };
+        match self.number_of(again) {
             Some(number) => self.place_numbered(number, placer, group),
             None => place_anew(self.alloc, placer, group),
         }

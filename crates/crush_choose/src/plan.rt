@@ -11,7 +11,9 @@ use crush_select::{FirstnCall, IndepCall, Row, Slot, Weights, choose_firstn, cho
 
 /// The parameters of a choose step, which are the same for each bucket of the working list.
 #[derive(Clone, Copy)]
-pub(crate) struct Plan {
+pub(crate) struct Plan<'a> {
+    pub tables: &'a Tables,
+    pub weights: &'a Weights,
     pub firstn: bool,
     pub leaf: bool,
     pub x: u32,
@@ -21,6 +23,14 @@ pub(crate) struct Plan {
     pub leaf_tries: u32,
     pub vary_r: u32,
     pub stable: u32,
+}
+
+/// What a choose step puts out, and the items and leaves that a bucket has for it.
+#[derive(Drop)]
+pub(crate) struct Rows {
+    pub out: Row,
+    pub items: Row,
+    pub leaves: Row,
 }
 
 /// Appends slots to a row.
@@ -33,119 +43,104 @@ pub(crate) fn append(row: &mut Row, slots: &[Slot])
     }
 }
 
-/// Appends the output of one bucket, at most `room` slots. It is chosen into two other rows.
-#[tactic(auto, unfolding(crate::specs::Rules::put_out))]
-fn put_out(
-    tables: &Tables,
-    scratch: &mut Scratch,
-    weights: &Weights,
-    plan: &Plan,
-    room: u32,
-    bucket: BucketNo,
-    items: &mut Row,
-    leaves: &mut Row,
-    out: &mut Row,
-)
-    requires plan { IsPlan plan.now }
-    requires bucket { bucket < length tables.now.buckets }
-    requires fits { scratch.old ≡ scratch_of tables.now }
-    requires room { length out.old + room ≤ SIZE_LIMIT }
-    ensures value { out.new ≡ out.old ++ put_out tables.now weights.now (call_of plan.now) room bucket }
-    ensures room { length (put_out tables.now weights.now (call_of plan.now) room bucket) ≤ room }
-    ensures fits { scratch.new ≡ scratch_of tables.now }
-{
-    if plan.numrep == 0 {
-        return;
-    }
-    if plan.firstn {
-        let call = FirstnCall {
-            bucket,
-            x: plan.x,
-            numrep: plan.numrep,
-            room,
-            wanted: plan.wanted,
-            tries: plan.tries,
-            leaf_tries: plan.leaf_tries,
-            vary_r: plan.vary_r,
-            stable: plan.stable,
-        };
-        choose_firstn(tables, scratch, &call, weights, items, leaves);
-    } else {
-        let call = IndepCall {
-            bucket,
-            x: plan.x,
-            n: plan.numrep.min(room),
-            numrep: plan.numrep,
-            wanted: plan.wanted,
-            tries: plan.tries,
-            leaf_tries: plan.leaf_tries,
-        };
-        choose_indep(tables, scratch, &call, weights, items, leaves);
-    }
-    append(
-        out,
-        if plan.leaf {
-            leaves.items()
+impl<'a> Plan<'a> {
+    /// Appends the output of one bucket, at most `room` slots.
+    #[tactic(auto, unfolding(crate::specs::Rules::put_out))]
+    fn put_out(&self, scratch: &mut Scratch, room: u32, bucket: BucketNo, rows: &mut Rows)
+        requires plan { IsPlan self.now }
+        requires bucket { bucket < length self.now.tables.now.buckets }
+        requires fits { scratch.old ≡ scratch_of self.now.tables.now }
+        requires room { length rows.old.out + room ≤ SIZE_LIMIT }
+        ensures value { rows.new.out ≡ rows.old.out ++ put_out self.now.tables.now self.now.weights.now (call_of self.now) room bucket }
+        ensures room { length (put_out self.now.tables.now self.now.weights.now (call_of self.now) room bucket) ≤ room }
+        ensures fits { scratch.new ≡ scratch_of self.now.tables.now }
+    {
+        if self.numrep == 0 {
+            return;
+        }
+        if self.firstn {
+            let call = FirstnCall {
+                bucket,
+                x: self.x,
+                numrep: self.numrep,
+                room,
+                wanted: self.wanted,
+                tries: self.tries,
+                leaf_tries: self.leaf_tries,
+                vary_r: self.vary_r,
+                stable: self.stable,
+            };
+            choose_firstn(
+                self.tables,
+                scratch,
+                &call,
+                self.weights,
+                &mut rows.items,
+                &mut rows.leaves,
+            );
         } else {
-            items.items()
-        },
-    );
-}
-
-/// Appends the output of one slot of the working list: nothing for a device or an empty slot.
-fn slot_out(
-    tables: &Tables,
-    scratch: &mut Scratch,
-    weights: &Weights,
-    plan: &Plan,
-    room: u32,
-    slot: Slot,
-    items: &mut Row,
-    leaves: &mut Row,
-    out: &mut Row,
-)
-    requires plan { IsPlan plan.now }
-    requires fits { scratch.old ≡ scratch_of tables.now }
-    requires room { length out.old + room ≤ SIZE_LIMIT }
-    ensures value { out.new ≡ out.old ++ slot_out tables.now weights.now (call_of plan.now) room slot }
-    ensures room { length (slot_out tables.now weights.now (call_of plan.now) room slot) ≤ room }
-    ensures fits { scratch.new ≡ scratch_of tables.now }
-{
-    match slot {
-        Some(item) => match tables.bucket_of(item) {
-            Some(bucket) => put_out(
-                tables, scratch, weights, plan, room, bucket, items, leaves, out,
-            ),
-            None => {}
-        },
-        None => {}
+            let call = IndepCall {
+                bucket,
+                x: self.x,
+                n: self.numrep.min(room),
+                numrep: self.numrep,
+                wanted: self.wanted,
+                tries: self.tries,
+                leaf_tries: self.leaf_tries,
+            };
+            choose_indep(
+                self.tables,
+                scratch,
+                &call,
+                self.weights,
+                &mut rows.items,
+                &mut rows.leaves,
+            );
+        }
+        if self.leaf {
+            append(&mut rows.out, rows.leaves.items());
+        } else {
+            append(&mut rows.out, rows.items.items());
+        }
     }
-}
 
-/// Fills a row with the output of a working list, in order.
-pub(crate) fn step_out(
-    tables: &Tables,
-    scratch: &mut Scratch,
-    weights: &Weights,
-    plan: &Plan,
-    size: u32,
-    working: &[Slot],
-    items: &mut Row,
-    leaves: &mut Row,
-    out: &mut Row,
-)
-    requires plan { IsPlan plan.now }
-    requires fits { scratch.old ≡ scratch_of tables.now }
-    requires size { size ≤ SIZE_LIMIT }
-    requires empty { out.old ≡ [] }
-    ensures value { out.new ≡ step_out tables.now weights.now (call_of plan.now) size working.now }
-    ensures room { length out.new ≤ size }
-    ensures fits { scratch.new ≡ scratch_of tables.now }
-{
-    for slot in working {
-        let room = size - out.len() as u32;
-        slot_out(
-            tables, scratch, weights, plan, room, *slot, items, leaves, out,
-        );
+    /// Appends the output of one slot of the working list: nothing for a device or an empty slot.
+    fn slot_out(&self, scratch: &mut Scratch, room: u32, slot: Slot, rows: &mut Rows)
+        requires plan { IsPlan self.now }
+        requires fits { scratch.old ≡ scratch_of self.now.tables.now }
+        requires room { length rows.old.out + room ≤ SIZE_LIMIT }
+        ensures value { rows.new.out ≡ rows.old.out ++ slot_out self.now.tables.now self.now.weights.now (call_of self.now) room slot }
+        ensures room { length (slot_out self.now.tables.now self.now.weights.now (call_of self.now) room slot) ≤ room }
+        ensures fits { scratch.new ≡ scratch_of self.now.tables.now }
+    {
+        match slot {
+            Some(item) => match self.tables.bucket_of(item) {
+                Some(bucket) => self.put_out(scratch, room, bucket, rows),
+                None => {}
+            },
+            None => {}
+        }
+    }
+
+    /// Puts out what a working list has, in order, at most `size` slots.
+    pub(crate) fn step_out(
+        &self,
+        scratch: &mut Scratch,
+        size: u32,
+        working: &[Slot],
+        rows: &mut Rows,
+    )
+        requires plan { IsPlan self.now }
+        requires fits { scratch.old ≡ scratch_of self.now.tables.now }
+        requires size { size ≤ SIZE_LIMIT }
+        requires empty { rows.old.out ≡ [] }
+        ensures value { rows.new.out ≡ step_out self.now.tables.now self.now.weights.now (call_of self.now) size working.now }
+        ensures room { length rows.new.out ≤ size }
+        ensures fits { scratch.new ≡ scratch_of self.now.tables.now }
+    {
+        for slot in working {
+            let room = size - rows.out.len() as u32;
+            self.slot_out(scratch, room, *slot, rows);
+        }
     }
 }

@@ -12,7 +12,7 @@ ghost use Rattle.crush_map.specs.declared.limits.TheConstants.{STEP_LIMIT};
 ghost use Rattle.crush_select.specs.declared.limits.TheConstants.{SIZE_LIMIT};
 
 use crate::limits::TRACE_LIMIT;
-use crate::plan::{Plan, append, step_out};
+use crate::plan::{Plan, Rows, append};
 use crush_bucket::{Scratch, Tables};
 use crush_map::{ItemId, Rule, Step, Tunables};
 use crush_select::{Row, Slot, Weights};
@@ -35,11 +35,8 @@ pub(crate) struct Run {
     pub settings: Settings,
     pub working: Row,
     pub emitted: Row,
-    /// What a choose step puts out before it becomes the working list, and the items and leaves
-    /// that a bucket has for it.
-    pub next: Row,
-    pub items: Row,
-    pub leaves: Row,
+    /// What a choose step puts out before it becomes the working list.
+    pub rows: Rows,
     /// The devices in the outputs of choose steps.
     pub made: Vec<u32>,
 }
@@ -110,107 +107,22 @@ fn emit(emitted: &mut Row, working: &[Slot], size: u32)
 }
 
 /// Runs one choose step, after k steps.
-fn choose(
-    tables: &Tables,
-    scratch: &mut Scratch,
-    weights: &Weights,
-    plan: &Plan,
-    size: u32,
-    run: &mut Run,
-    k: u32,
-)
+fn choose(plan: &Plan, scratch: &mut Scratch, size: u32, run: &mut Run, k: u32)
     requires plan { IsPlan plan.now }
-    requires fits { scratch.old ≡ scratch_of tables.now }
+    requires fits { scratch.old ≡ scratch_of plan.now.tables.now }
     requires size { size ≤ SIZE_LIMIT }
     requires few { k < STEP_LIMIT }
     requires run { IsRun size k run.old }
-    ensures value { state_of run.new ≡ with_chosen (state_of run.old) (spec.step_out tables.now weights.now (call_of plan.now) size run.old.working) }
+    ensures value { state_of run.new ≡ with_chosen (state_of run.old) (spec.step_out plan.now.tables.now plan.now.weights.now (call_of plan.now) size run.old.working) }
     ensures run { IsRun size (k + 1) run.new }
-    ensures fits { scratch.new ≡ scratch_of tables.now }
+    ensures fits { scratch.new ≡ scratch_of plan.now.tables.now }
 {
-    run.next.clear();
-    step_out(
-        tables,
-        scratch,
-        weights,
-        plan,
-        size,
-        run.working.items(),
-        &mut run.items,
-        &mut run.leaves,
-        &mut run.next,
-    );
-    note_devices(&mut run.made, run.next.items());
+    run.rows.out.clear();
+    plan.step_out(scratch, size, run.working.items(), &mut run.rows);
+    let out = run.rows.out.items();
+    note_devices(&mut run.made, out);
     run.working.clear();
-    append(&mut run.working, run.next.items());
-}
-
-/// Runs one step of a rule, after k steps.
-fn after_step(
-    tables: &Tables,
-    scratch: &mut Scratch,
-    weights: &Weights,
-    x: u32,
-    size: u32,
-    run: &mut Run,
-    step: Step,
-    k: u32,
-)
-    requires fits { scratch.old ≡ scratch_of tables.now }
-    requires size { size ≤ SIZE_LIMIT }
-    requires few { k < STEP_LIMIT }
-    requires step { IsStep size step }
-    requires run { IsRun size k run.old }
-    ensures value { state_of run.new ≡ spec.after_step tables.now weights.now x size (state_of run.old) step }
-    ensures run { IsRun size (k + 1) run.new }
-    ensures fits { scratch.new ≡ scratch_of tables.now }
-{
-    match step {
-        Step::Take(item) => {
-            run.working.clear();
-            run.working.push(Some(item));
-        }
-        Step::SetChooseTries(n) => {
-            if n != 0 {
-                run.settings.tries = n;
-            }
-        }
-        Step::SetLeafTries(n) => {
-            if n != 0 {
-                run.settings.leaf_tries = n;
-            }
-        }
-        Step::SetVaryR(n) => run.settings.vary_r = n,
-        Step::SetStable(n) => run.settings.stable = n,
-        Step::Choose {
-            firstn,
-            leaf,
-            n,
-            wanted,
-        } => {
-            let settings = run.settings;
-            let plan = Plan {
-                firstn,
-                leaf,
-                x,
-                numrep: reps(n, size),
-                wanted,
-                tries: settings.tries,
-                leaf_tries: if leaf {
-                    leaf_tries(tables.tunables(), settings, firstn)
-                } else {
-                    0
-                },
-                vary_r: settings.vary_r,
-                stable: settings.stable,
-            };
-            choose(tables, scratch, weights, &plan, size, run, k);
-        }
-        Step::Emit => {
-            emit(&mut run.emitted, run.working.items(), size);
-            run.working.clear();
-        }
-    }
+    append(&mut run.working, out);
 }
 
 /// Makes a run ready for its first step.
@@ -241,59 +153,113 @@ fn finish(made: &mut Vec<u32>)
     made.dedup();
 }
 
-/// Runs the steps of a rule in order.
-#[tactic(auto, unfolding(crate::specs::Rules::after_rule))]
-fn take_steps(
-    tables: &Tables,
-    scratch: &mut Scratch,
-    steps: &[Step],
+/// What a rule is run on: the tables, the reweights, the input, and how many slots the answer has
+/// at most.
+#[derive(Clone, Copy)]
+struct Runner<'a> {
+    tables: &'a Tables,
+    weights: &'a Weights,
     x: u32,
     size: u32,
-    weights: &Weights,
-    run: &mut Run,
-)
-    requires fits { scratch.old ≡ scratch_of tables.now }
-    requires tunables { are_in_range tables.now.tunables ≡ true }
-    requires size { size ≤ SIZE_LIMIT }
-    requires few { length steps.now ≤ STEP_LIMIT }
-    requires steps { (k : ℕ) → k < length steps.now → IsStep size (slice_index_or steps.now k no_step) }
-    requires capacity { TRACE_LIMIT ≤ vec_capacity run.old.made }
-    ensures items { run.new.emitted ≡ rule_answer tables.now weights.now steps.now x size }
-    ensures room { length run.new.emitted ≤ size }
-    ensures made { run.new.made.items ≡ (spec.after_rule tables.now weights.now steps.now x size).made }
-    ensures capacity { TRACE_LIMIT ≤ vec_capacity run.new.made }
-    ensures fits { scratch.new ≡ scratch_of tables.now }
-{
-    start(tables.tunables(), run);
-    for (k, step) in steps.iter().enumerate() {
-        after_step(tables, scratch, weights, x, size, run, *step, k as u32);
-    }
+    ghost few: { size ≤ SIZE_LIMIT },
+    ghost tunables: { are_in_range tables.now.tunables ≡ true },
 }
 
-/// Runs the steps of a rule in order, then makes the trace.
-fn trace_steps(
-    tables: &Tables,
-    scratch: &mut Scratch,
-    steps: &[Step],
-    x: u32,
-    size: u32,
-    weights: &Weights,
-    run: &mut Run,
-)
-    requires fits { scratch.old ≡ scratch_of tables.now }
-    requires tunables { are_in_range tables.now.tunables ≡ true }
-    requires size { size ≤ SIZE_LIMIT }
-    requires few { length steps.now ≤ STEP_LIMIT }
-    requires steps { (k : ℕ) → k < length steps.now → IsStep size (slice_index_or steps.now k no_step) }
-    requires capacity { TRACE_LIMIT ≤ vec_capacity run.old.made }
-    ensures items { run.new.emitted ≡ rule_answer tables.now weights.now steps.now x size }
-    ensures room { length run.new.emitted ≤ size }
-    ensures trace { IsTrace tables.now weights.now steps.now x size run.new.made.items }
-    ensures capacity { TRACE_LIMIT ≤ vec_capacity run.new.made }
-    ensures fits { scratch.new ≡ scratch_of tables.now }
-{
-    take_steps(tables, scratch, steps, x, size, weights, run);
-    finish(&mut run.made);
+impl<'a> Runner<'a> {
+    /// Runs one step of a rule, after k steps.
+    fn after_step(&self, scratch: &mut Scratch, run: &mut Run, step: Step, k: u32)
+        requires fits { scratch.old ≡ scratch_of self.now.tables.now }
+        requires few { k < STEP_LIMIT }
+        requires step { IsStep self.now.size step }
+        requires run { IsRun self.now.size k run.old }
+        ensures value { let s = self.now in state_of run.new ≡ spec.after_step s.tables.now s.weights.now s.x s.size (state_of run.old) step }
+        ensures run { IsRun self.now.size (k + 1) run.new }
+        ensures fits { scratch.new ≡ scratch_of self.now.tables.now }
+    {
+        match step {
+            Step::Take(item) => {
+                run.working.clear();
+                run.working.push(Some(item));
+            }
+            Step::SetChooseTries(n) => {
+                if n != 0 {
+                    run.settings.tries = n;
+                }
+            }
+            Step::SetLeafTries(n) => {
+                if n != 0 {
+                    run.settings.leaf_tries = n;
+                }
+            }
+            Step::SetVaryR(n) => run.settings.vary_r = n,
+            Step::SetStable(n) => run.settings.stable = n,
+            Step::Choose {
+                firstn,
+                leaf,
+                n,
+                wanted,
+            } => {
+                let settings = run.settings;
+                let plan = Plan {
+                    tables: self.tables,
+                    weights: self.weights,
+                    firstn,
+                    leaf,
+                    x: self.x,
+                    numrep: reps(n, self.size),
+                    wanted,
+                    tries: settings.tries,
+                    leaf_tries: if leaf {
+                        leaf_tries(self.tables.tunables(), settings, firstn)
+                    } else {
+                        0
+                    },
+                    vary_r: settings.vary_r,
+                    stable: settings.stable,
+                };
+                choose(&plan, scratch, self.size, run, k);
+            }
+            Step::Emit => {
+                emit(&mut run.emitted, run.working.items(), self.size);
+                run.working.clear();
+            }
+        }
+    }
+
+    /// Runs the steps of a rule in order.
+    #[tactic(auto, unfolding(crate::specs::Rules::after_rule))]
+    fn take_steps(&self, scratch: &mut Scratch, steps: &[Step], run: &mut Run)
+        requires fits { scratch.old ≡ scratch_of self.now.tables.now }
+        requires few { length steps.now ≤ STEP_LIMIT }
+        requires steps { (k : ℕ) → k < length steps.now → IsStep self.now.size (slice_index_or steps.now k no_step) }
+        requires capacity { TRACE_LIMIT ≤ vec_capacity run.old.made }
+        ensures items { let s = self.now in run.new.emitted ≡ rule_answer s.tables.now s.weights.now steps.now s.x s.size }
+        ensures room { length run.new.emitted ≤ self.now.size }
+        ensures made { let s = self.now in run.new.made.items ≡ (spec.after_rule s.tables.now s.weights.now steps.now s.x s.size).made }
+        ensures capacity { TRACE_LIMIT ≤ vec_capacity run.new.made }
+        ensures fits { scratch.new ≡ scratch_of self.now.tables.now }
+    {
+        start(self.tables.tunables(), run);
+        for (k, step) in steps.iter().enumerate() {
+            self.after_step(scratch, run, *step, k as u32);
+        }
+    }
+
+    /// Runs the steps of a rule in order, then makes the trace.
+    fn trace_steps(&self, scratch: &mut Scratch, steps: &[Step], run: &mut Run)
+        requires fits { scratch.old ≡ scratch_of self.now.tables.now }
+        requires few { length steps.now ≤ STEP_LIMIT }
+        requires steps { (k : ℕ) → k < length steps.now → IsStep self.now.size (slice_index_or steps.now k no_step) }
+        requires capacity { TRACE_LIMIT ≤ vec_capacity run.old.made }
+        ensures items { let s = self.now in run.new.emitted ≡ rule_answer s.tables.now s.weights.now steps.now s.x s.size }
+        ensures room { length run.new.emitted ≤ self.now.size }
+        ensures trace { let s = self.now in IsTrace s.tables.now s.weights.now steps.now s.x s.size run.new.made.items }
+        ensures capacity { TRACE_LIMIT ≤ vec_capacity run.new.made }
+        ensures fits { scratch.new ≡ scratch_of self.now.tables.now }
+    {
+        self.take_steps(scratch, steps, run);
+        finish(&mut run.made);
+    }
 }
 
 /// Returns whether a number is in a list.
@@ -341,9 +307,11 @@ impl Out {
                 },
                 working: Row::new(),
                 emitted: Row::new(),
-                next: Row::new(),
-                items: Row::new(),
-                leaves: Row::new(),
+                rows: Rows {
+                    out: Row::new(),
+                    items: Row::new(),
+                    leaves: Row::new(),
+                },
                 made,
             },
         })
@@ -391,8 +359,13 @@ pub fn run_rule(
     ensures trace_stays { (lowered : List ℕ) → AreLoweredOutside out.new.trace weights.now lowered → IsTrace tables.now lowered rule.now.steps x size out.new.trace }
     ensures fits { scratch.new ≡ scratch_of tables.now }
 {
-    let steps = rule.steps.as_slice();
-    trace_steps(tables, scratch, steps, x, size, weights, &mut out.run);
+    let runner = Runner {
+        tables,
+        weights,
+        x,
+        size,
+    };
+    runner.trace_steps(scratch, rule.steps.as_slice(), &mut out.run);
 }
 
 /// Runs a rule for an input as `run_rule` does, and returns whether a device is in the trace of the
@@ -417,7 +390,12 @@ pub fn touches(
     ensures room { length out.new.items ≤ size }
     ensures fits { scratch.new ≡ scratch_of tables.now }
 {
-    let steps = rule.steps.as_slice();
-    take_steps(tables, scratch, steps, x, size, weights, &mut out.run);
+    let runner = Runner {
+        tables,
+        weights,
+        x,
+        size,
+    };
+    runner.take_steps(scratch, rule.steps.as_slice(), &mut out.run);
     has_number(out.run.made.as_slice(), device)
 }

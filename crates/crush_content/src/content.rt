@@ -58,24 +58,25 @@ impl Content {
     ghost use Rattle.crush_content.specs.Contents.{content_eq};
     ghost use Rattle.crush_content.specs.declared.content.TheConstants.{LONG_TEXT};
 
-    /// Makes the content of a text, states, a pool and its exceptions. Takes no memory, and time
-    /// that doesn't depend on the lengths of the text, of the states and of the exceptions.
+    /// Makes the content of a text, states, a pool and its exceptions, which it shares. Takes no
+    /// memory, and time that doesn't depend on the lengths of the text, of the states and of the
+    /// exceptions, but can be refused where the number of those who share a part is full.
     pub fn new(
-        text: SharedText,
-        states: SharedStates,
-        pool: Rc<Pool>,
-        exceptions: SharedExceptions,
-    ) -> Self
-        ensures { result ≡ record { text = text; states = states; pool = pool.value; pairs = exceptions } }
+        text: &SharedText,
+        states: &SharedStates,
+        pool: &Rc<Pool>,
+        exceptions: &SharedExceptions,
+    ) -> Result<Self, AllocError>
+        ensures { IfOk result (λ content. content ≡ record { text = text.now; states = states.now; pool = pool.now.value; pairs = exceptions.now }) }
     {
-        let hash = hash_of(text.hash(), states.hash(), exceptions.hash(), &pool);
-        Content {
-            text,
-            states,
-            pool,
-            exceptions,
+        let hash = hash_of(text.hash(), states.hash(), exceptions.hash(), pool);
+        Ok(Content {
+            text: text.share()?,
+            states: states.share()?,
+            pool: pool.clone()?,
+            exceptions: exceptions.share()?,
             hash,
-        }
+        })
     }
 
     /// Returns whether the text is long.

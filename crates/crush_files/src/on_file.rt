@@ -13,7 +13,7 @@ use std::alloc::AllocError;
 use std::io::{Read, Write};
 use std::num::NonZeroUsize;
 use std::rt::HostRuntime;
-use tenant_files::{Closed, FileWatch, Refused, give_back, open_store};
+use tenant_files::{Closed, Refused, open_watched};
 
 /// Plays a script on the tenants in the database file at `path`, keeps the placements of
 /// `placements` groups, and returns how that ended, with the files that were given back. A file
@@ -44,13 +44,9 @@ pub fn script_on_file<S: Start, R: Read, W: Write>(
     // Where the files are given back, what they held is there, also after a crash.
     ensures refused { IfErr result (λ e. IfSome e.files (IsRefused ⟦<FileFrom<S> as Disk>⟧ (image_at S.Start))) }
 {
-    let store = match open_store(rt, path, start) {
-        Ok(store) => store,
+    let (store, watch) = match open_watched(rt, path, start) {
+        Ok(opened) => opened,
         Err(refused) => return Err(refused),
-    };
-    let watch = match FileWatch::new(rt, path) {
-        Ok(watch) => watch,
-        Err(fault) => return Err(give_back(store, fault)),
     };
     Ok(script_on_files(rt.alloc(), store, watch, placements, reader, writer))
 }

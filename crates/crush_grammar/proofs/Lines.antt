@@ -94,10 +94,6 @@ is_text_open front ds h =
     let e : Ends (Between true) 1 front = ap (λ r. r.fault) (is_read front ds h) in
     ends_open (run (Between true) front) (last_line 1 front) (ends_off (Between true) 1 front [] (rw (append-nil front) e))
 
-pub no_and : (a b : Bool) → a ≡ false → (a && b) ≡ false
-no_and true b h = cc
-no_and false b h = refl
-
 pub and_on : (a b : Bool) → a ≡ true → b ≡ true → (a && b) ≡ true
 and_on true b h k = k
 and_on false b h k = cc

@@ -1,9 +1,9 @@
 -- What is taken from a reader, from call to call.
-use Rattle.std.proofs.Common.{◌≡◌, ℕ, ◌+◌, ◌-◌, ◌≤◌, ◌<◌, List, [], ◌∷◌, ◌++◌, length, take, drop, Option, Some, None, refl, ap, sym, ◌∙◌, arith, append_assoc, length-take, length-append, length-drop, subst}
-use Rattle.std.proofs.lemmas.List.{append-nil, take-append-le, take-append-drop, drop-take, drop-append-le, drop_all}
+use Rattle.std.proofs.Common.{◌≡◌, ℕ, ◌+◌, ◌-◌, ◌≤◌, ◌<◌, List, [], ◌∷◌, ◌++◌, length, take, drop, Option, Some, None, refl, ap, sym, ◌∙◌, arith, append_assoc, length-take, length-drop, subst}
+use Rattle.std.proofs.lemmas.List.{append-nil, take-append-le, drop-take, drop-append-le}
 use Rattle.std.proofs.Math.Seq.{take-append-add, take-append_seam}
 use Rattle.std.specs.Io.KnownBytes.{Keeps, Consumes}
-use Rattle.crush_http.specs.Private.Reading.{ReadsOn, IsBodyOf}
+use Rattle.crush_http.specs.Private.Reading.{ReadsOn}
 
 -- ---- readers
 
@@ -23,16 +23,6 @@ consumes_both (Some u) (Some v) None xs ys p q = absurd q
 consumes_both (Some u) (Some v) (Some w) xs ys p q = p ∙ ap (λ l. xs ++ l) q ∙ sym (append_assoc xs ys w)
 
 -- ---- bytes that were there, and those that were read after them
-
-pub reads_none : (there : List ℕ) (a : Option (List ℕ)) (P : List ℕ → Type 0) → P there → ReadsOn there a a P
-reads_none there a P h = record { more = []; taken = consumes_none a; holds = subst P (sym (append-nil there)) h }
-
-pub reads_kept : (there : List ℕ) (a b : Option (List ℕ)) (P : List ℕ → Type 0) → Keeps a b → P there → ReadsOn there a b P
-reads_kept there a b P kept h = record { more = []; taken = consumes_kept a b kept; holds = subst P (sym (append-nil there)) h }
-
--- to a buffer of which something is known
-pub reads_to : (there buffer : List ℕ) (a b : Option (List ℕ)) (P : List ℕ → Type 0) → ReadsOn there a b (λ all. buffer ≡ all) → P buffer → ReadsOn there a b P
-reads_to there buffer a b P read h = record { more = read.more; taken = read.taken; holds = subst P read.holds h }
 
 -- first to a buffer, and then on from it
 pub reads_both : (there buffer : List ℕ) (a b c : Option (List ℕ)) (P : List ℕ → Type 0) → ReadsOn there a b (λ all. buffer ≡ all) → ReadsOn buffer b c P → ReadsOn there a c P
@@ -100,29 +90,3 @@ few_filled a b c start filled n body size h f taken none = (
   subst (Consumes a c) (append-nil (drop start (take filled body))) (consumes_both a b c (drop start (take filled body)) [] taken none),
   omega (arith, length-drop start (take filled body), length-take filled body, size, h, f),
 )
-
--- a body whose bytes were all there
-pub body_there : (first body : List ℕ) (n : ℕ) (a : Option (List ℕ)) → n ≤ length first → body ≡ take n first → ReadsOn first a a (IsBodyOf body first)
-body_there first body n a few e = record {
-  more = [];
-  taken = consumes_none a;
-  holds = append-nil first ∙ sym (take-append-drop n first) ∙ (λ i. sym e i ++ drop (size i) first);
-}
-  where
-    size : n ≡ length body
-    size = sym (ap length e ∙ (let some : length (take n first) ≡ n = omega (arith, length-take n first) in some))
-
--- a body whose bytes were read but for the first ones
-pub body_read : (first body : List ℕ) (a b : Option (List ℕ)) → take (length first) body ≡ first → length first ≤ length body → Consumes a b (drop (length first) body)
-    → ReadsOn first a b (IsBodyOf body first)
-body_read first body a b front few taken = record {
-  more = drop (length first) body;
-  taken = taken;
-  holds =
-      ap (λ xs. xs ++ drop (length first) body) (sym front) ∙ take-append-drop (length first) body ∙ sym (append-nil body)
-      ∙ ap (λ xs. body ++ xs) (sym (drop_all (length body) first few));
-}
-
--- fewer bytes than the body has
-pub body_few : (first : List ℕ) (n : ℕ) (a b : Option (List ℕ)) → (more : List ℕ) × Consumes a b more × (length first + length more < n) → ReadsOn first a b (λ all. length all < n)
-body_few first n a b h = record { more = h.0; taken = h.1; holds = omega (arith, length-append first h.0, h.2) }

@@ -26,9 +26,6 @@ pub record IsLast (p : ℕ → Bool) (from n : ℕ) (last : Option ℕ) : Type 0
   pub same : MatchOption last (greatest p (from + n) ≡ greatest p from) (λ place. greatest p (from + n) ≡ Some place)
   pub within : IfSome last (λ place. place < from + n)
 
-pub last_none : (p : ℕ → Bool) (from : ℕ) → IsLast p from 0 None
-last_none p from = let e : from + 0 ≡ from = omega arith in record { same = rw e refl; within = tt }
-
 pub last_passes : (p : ℕ → Bool) (from n : ℕ) → p (from + n) ≡ true → IsLast p from (n + 1) (Some (from + n))
 last_passes p from n passes =
     let e : from + (n + 1) ≡ suc (from + n) = omega arith in record { same = rw (e, passes) refl; within = omega arith }

@@ -6,10 +6,6 @@ use Rattle.std.proofs.Math.Nat.{pow-succ'}
 use Rattle.std.proofs.Math.Pow.{pow_mono}
 use Rattle.crush_kinds.specs.Kinds.{least_from, height_of}
 
--- whether 2^k places hold a bucket of this size
-pub holds_at : ℕ → ℕ → Bool
-holds_at size k = nat_le size (2 ^ k)
-
 pub pow_more : (k : ℕ) → 2 ^ (k + 1) ≡ 2 * 2 ^ k
 pow_more k = let e : k + 1 ≡ suc k = omega arith in rw e (pow-succ' 2 k)
 
@@ -31,10 +27,6 @@ height_next size k small e =
     let more : size - k ≡ suc (size - (k + 1)) = omega arith in
     let not : nat_le size (2 ^ k) ≡ false = grind (arith, nat_tests) in
     e ∙ (ap (λ (n : ℕ). least_from (λ k. nat_le size (2 ^ k)) k n) more ∙ from_next (λ k. nat_le size (2 ^ k)) k (size - (k + 1)) not)
-
--- where they are enough, it is k
-pub height_here : (size k : ℕ) → size ≤ 2 ^ k → height_of size ≡ least_from (λ k. nat_le size (2 ^ k)) k (size - k) → height_of size ≡ k
-height_here size k enough e = e ∙ from_here (λ k. nat_le size (2 ^ k)) k (size - k) (le-leb size (2 ^ k) enough)
 
 by_test : (p : ℕ → Bool) (k n : ℕ) (b : Bool) → p k ≡ b
     → ((j : ℕ) → k + 1 ≤ j → j < least_from p (k + 1) n → p j ≡ false) × (least_from p (k + 1) n < k + 1 + n → p (least_from p (k + 1) n) ≡ true) × (least_from p (k + 1) n ≤ k + 1 + n)

@@ -5,7 +5,6 @@ use Rattle.std.specs.List.Sorted.{IsPermutation}
 use Rattle.std.proofs.lemmas.List.Sorted.{IsPermutation-refl, IsPermutation-append_left, list_any-IsPermutation, length_permutation}
 use Rattle.crush_map.specs.declared.fault.FaultCode.{FaultCode}
 use Rattle.crush_map.specs.declared.fault.Element.{Element}
-use Rattle.crush_map.specs.declared.draft.TypeName.{TypeName}
 use Rattle.crush_map.specs.declared.draft.Device.{Device}
 use Rattle.crush_map.specs.declared.draft.Bucket.{Bucket}
 use Rattle.crush_map.specs.declared.draft.Rule.{Rule}
@@ -15,7 +14,7 @@ use Rattle.crush_map.specs.declared.draft.Step.TheVariants.{Take, SetChooseTries
 use Rattle.crush_types.specs.declared.ItemId.{ItemId}
 use Rattle.crush_types.specs.declared.Weight.{Weight}
 use Rattle.crush_types.specs.declared.Kind.{Kind}
-use Rattle.crush_map.specs.Faults.{Known, Ids, has_id, with_id, has_number, has_name, items_fault, contents_fault, step_fault, choose_fault, type_fault, device_fault, bucket_fault, rule_fault, end_fault, with_device, with_bucket, with_rule, first_in}
+use Rattle.crush_map.specs.Faults.{Known, Ids, has_id, with_id, has_number, has_name, items_fault, contents_fault, step_fault, choose_fault, device_fault, bucket_fault, rule_fault, end_fault, with_device, with_bucket, with_rule, first_in}
 
 pub record AlikeIds (i j : Ids) : Type 0 where
   pub devices : IsPermutation i.devices j.devices
@@ -53,10 +52,6 @@ id_alike i j a (pos n) = number_alike i.devices j.devices a.devices n
 id_alike i j a (negsuc n) = number_alike i.buckets j.buckets a.buckets n
 
 -- ---- the checks answer the same
-
-pub type_alike : (k l : Known) → Alike k l → (t : TypeName) → type_fault k t ≡ type_fault l t
-unfolding type_fault
-type_alike k l a t = rw (length_permutation k.types l.types a.types, number_alike k.types l.types a.types t.number, name_alike k.type_names l.type_names a.type_names t.name) refl
 
 pub device_alike : (k l : Known) → Alike k l → (d : Device) → device_fault k d ≡ device_fault l d
 unfolding device_fault

@@ -70,10 +70,9 @@ fn judge_buckets(
     ensures known { IfOk result (λ fault. fault ≡ None → known.new ≡ fold spec.with_bucket known.old buckets.now) }
 {
     for (index, declared) in buckets.iter().enumerate() {
-        if let Some(code) = known.bucket_fault(alloc, declared)? {
+        if let Some(code) = known.declare_bucket(alloc, declared)? {
             return Ok(Some(fault_at(Element::Buckets, index, code)));
         }
-        known.add_bucket(alloc, declared)?;
     }
     Ok(None)
 }
@@ -90,10 +89,10 @@ fn judge_rules(
     ensures known { IfOk result (λ fault. fault ≡ None → known.new ≡ fold spec.with_rule known.old rules.now) }
 {
     for (index, declared) in rules.iter().enumerate() {
-        if let Some(code) = known.rule_fault(declared) {
+        let fault_of_steps = known.steps_fault(declared.steps.as_slice());
+        if let Some(code) = known.declare_rule(alloc, declared, fault_of_steps)? {
             return Ok(Some(fault_at(Element::Rules, index, code)));
         }
-        known.add_rule(alloc, declared)?;
     }
     Ok(None)
 }

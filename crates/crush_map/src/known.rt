@@ -1,6 +1,6 @@
 //! The numbers, ids and names declared so far, and the checks of the next element against them.
 
-ghost use Rattle.std.specs.Prelude.{◌≡◌, ◌≤◌, IfOk, OnOk, if◌then◌else◌, is_some, length, None};
+ghost use Rattle.std.specs.Prelude.{◌≡◌, ◌≤◌, IfOk, if◌then◌else◌, is_some, length};
 ghost use Rattle.crush_map.specs.Faults as spec;
 
 use crate::draft::{Bucket, Device, Rule, Step, Tunables, TypeName};
@@ -112,18 +112,20 @@ impl Known {
         Ok(Some(fault))
     }
 
-    /// Finds the fault of a bucket, if it is declared next.
+    /// Declares a bucket that has no fault. Returns the fault if it has one.
     ///
-    /// `Err(AllocError)`: an allocation failed; nothing is changed.
-    #[tactic(auto, unfolding(crate::specs::Faults::bucket_fault))]
-    pub fn bucket_fault(
-        &self,
+    /// `Err(AllocError)`: an allocation failed; the value must not be used any more.
+    #[tactic(auto, using(crate::proofs::Passing::bucket_is), unfolding(crate::specs::Faults::bucket_fault))]
+    pub fn declare_bucket(
+        &mut self,
         alloc: Global,
         declared: &Bucket,
     ) -> Result<Option<FaultCode>, AllocError>
-        ensures { IfOk result (λ fault. fault ≡ spec.bucket_fault self.now declared.now) }
+        ensures fault { IfOk result (λ fault. fault ≡ spec.bucket_fault self.old declared.now) }
+        ensures known { IfOk result (λ fault. self.new ≡ (if is_some fault then self.old else spec.with_bucket self.old declared.now)) }
     {
         let name = declared.name.as_str();
+        let items = declared.items.as_slice();
         let fault = if self.items.buckets() >= BUCKET_LIMIT {
             FaultCode::M1
         } else if !is_bucket_id(declared.id) {
@@ -138,10 +140,14 @@ impl Known {
             FaultCode::M4
         } else if declared.kind_of == 0 {
             FaultCode::M9
-        } else if declared.items.as_slice().len() > ITEM_LIMIT {
+        } else if items.len() > ITEM_LIMIT {
             FaultCode::M1
+        } else if let Some(fault) = self.contents_fault(alloc, declared.alg, items)? {
+            fault
         } else {
-            return self.contents_fault(alloc, declared.alg, declared.items.as_slice());
+            self.item_names.insert(alloc, name)?;
+            self.items.add(declared.id)?;
+            return Ok(None);
         };
         Ok(Some(fault))
     }
@@ -204,18 +210,6 @@ impl Known {
         self.items_fault_behind(&mut before, items)
     }
 
-    /// Adds a bucket that has no fault.
-    ///
-    /// `Err(AllocError)`: an allocation failed; the value must not be used any more.
-    #[tactic(auto, using(crate::proofs::Passing::bucket_is_new))]
-    pub fn add_bucket(&mut self, alloc: Global, declared: &Bucket) -> Result<(), AllocError>
-        requires { spec.bucket_fault self.old declared.now ≡ None }
-        ensures { OnOk result (self.new ≡ spec.with_bucket self.old declared.now) }
-    {
-        self.item_names.insert(alloc, declared.name.as_str())?;
-        self.items.add(declared.id)
-    }
-
     /// Returns the fault of a choose step.
     #[tactic(auto, unfolding(crate::specs::Faults::choose_fault))]
     fn choose_fault(&self, firstn: bool, leaf: bool, n: i32, wanted: u32) -> Option<FaultCode>
@@ -254,7 +248,7 @@ impl Known {
     }
 
     /// Finds the first fault of steps.
-    fn steps_fault(&self, steps: &[Step]) -> Option<FaultCode>
+    pub(crate) fn steps_fault(&self, steps: &[Step]) -> Option<FaultCode>
         ensures { result ≡ spec.steps_fault self.now steps.now }
     {
         for step in steps {
@@ -265,51 +259,43 @@ impl Known {
         None
     }
 
-    /// Returns the fault of a rule, if it is declared next, apart from the faults of its steps.
+    /// Declares a rule that has no fault, where `fault_of_steps` is the first fault of its steps.
+    /// Returns the fault if it has one: that of the rule apart from its steps, else that of its
+    /// steps.
+    ///
+    /// `Err(AllocError)`: an allocation failed; the value must not be used any more.
     #[tactic(auto, unfolding(crate::specs::Faults::rule_head_fault))]
-    pub fn rule_head_fault(&self, declared: &Rule) -> Option<FaultCode>
-        ensures { result ≡ spec.rule_head_fault self.now declared.now }
+    pub fn declare_rule(
+        &mut self,
+        alloc: Global,
+        declared: &Rule,
+        fault_of_steps: Option<FaultCode>,
+    ) -> Result<Option<FaultCode>, AllocError>
+        ensures fault { IfOk result (λ fault. fault ≡ spec.or_else (spec.rule_head_fault self.old declared.now) fault_of_steps) }
+        ensures known { IfOk result (λ fault. self.new ≡ (if is_some fault then self.old else spec.with_rule self.old declared.now)) }
     {
         let name = declared.name.as_str();
         let steps = declared.steps.as_slice();
-        if self.rules.len() >= RULE_LIMIT {
-            Some(FaultCode::M1)
+        let fault = if self.rules.len() >= RULE_LIMIT {
+            FaultCode::M1
         } else if declared.id > RULE_ID_LIMIT {
-            Some(FaultCode::M12)
+            FaultCode::M12
         } else if self.rules.has(declared.id) {
-            Some(FaultCode::M2)
+            FaultCode::M2
         } else if !is_name(name) {
-            Some(FaultCode::M15)
+            FaultCode::M15
         } else if self.rule_names.has(name) {
-            Some(FaultCode::M3)
+            FaultCode::M3
         } else if steps.is_empty() || steps.len() > STEP_LIMIT {
-            Some(FaultCode::M1)
+            FaultCode::M1
+        } else if let Some(fault) = fault_of_steps {
+            fault
         } else {
-            None
-        }
-    }
-
-    /// Returns the fault of a rule, if it is declared next.
-    #[tactic(auto, using(crate::proofs::Checks::rule_fault_by_parts))]
-    pub fn rule_fault(&self, declared: &Rule) -> Option<FaultCode>
-        ensures { result ≡ spec.rule_fault self.now declared.now }
-    {
-        match self.rule_head_fault(declared) {
-            Some(fault) => Some(fault),
-            None => self.steps_fault(declared.steps.as_slice()),
-        }
-    }
-
-    /// Adds a rule that has no fault.
-    ///
-    /// `Err(AllocError)`: an allocation failed; the value must not be used any more.
-    #[tactic(auto, using(crate::proofs::Passing::rule_is_new))]
-    pub fn add_rule(&mut self, alloc: Global, declared: &Rule) -> Result<(), AllocError>
-        requires { spec.rule_fault self.old declared.now ≡ None }
-        ensures { OnOk result (self.new ≡ spec.with_rule self.old declared.now) }
-    {
-        self.rule_names.insert(alloc, declared.name.as_str())?;
-        self.rules.add(declared.id)
+            self.rule_names.insert(alloc, name)?;
+            self.rules.add(declared.id)?;
+            return Ok(None);
+        };
+        Ok(Some(fault))
     }
 
     /// Returns the fault of a whole draft whose elements have none: it has no type 0, a tunable is

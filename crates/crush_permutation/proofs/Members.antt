@@ -18,10 +18,6 @@ range_more n =
     let e = map-range_with_len_more (λ (k : ℕ). k) 0 n n (omega arith) in
     sym (sym (map-id (range_with_len 0 (n + 1))) ∙ e ∙ ap (λ (l : List ℕ). l ++ n ∷ []) (map-id (range_with_len 0 n)))
 
--- a list with each place's number at it
-pub is_range : (xs : List ℕ) (n : ℕ) → length xs ≡ n → ((k : ℕ) → k < n → slice_index_or xs k 0 ≡ k) → xs ≡ range_with_len 0 n
-is_range xs n e h = fill_by_all (λ (k : ℕ). k) xs n 0 e h ∙ map-id (range_with_len 0 n)
-
 -- a partner is a place
 pub partner_within : (id : ItemId) (size x place : ℕ) → place < size → (place ≤ partner id size x place) × (partner id size x place < size)
 partner_within id size x place h = (omega arith, omega arith)

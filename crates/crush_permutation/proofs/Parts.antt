@@ -66,15 +66,6 @@ parts_after slots row after p s t parts low has start end part len before behind
 
 -- ---- new slots
 
-pub no_slots : AreNew [] 0
-no_slots = record { each = λ i d within. absurd (omega (arith, within)); apart = λ i j d less within. absurd (omega (arith, within)) }
-
-pub new_more : (slots : List Slot) (last : Slot) (end next : ℕ) → AreNew slots end → IsNew next last → last.start ≡ end → AreNew (slots ++ last ∷ []) next
-new_more slots last end next new is start = record {
-  each = All-push (IsNew next) slots last (λ i d within. (let old = new.each i d within in record { empty = old.empty; small = old.small; room = old.room; within = omega (arith, old.within, is.within, is.room, start) })) is;
-  apart = all_pairs_push (λ (s t : Slot). s.end ≤ t.start) slots last new.apart (λ i d within. (let old = new.each i d within in omega (arith, old.within, start)));
-}
-
 -- new slots have their parts in any row that is long enough
 pub new_parts : (slots : List Slot) (row : List Pair) → AreNew slots (length row) → AreParts slots row
 new_parts slots row new = record {
@@ -88,10 +79,6 @@ new_parts slots row new = record {
 }
 
 -- ---- the room of a part
-
--- one slot more
-pub room_more : (size : ℕ) (slots : List Slot) (last : Slot) → HaveRoom size slots → last.start + room_of size ≤ last.end → HaveRoom size (slots ++ last ∷ [])
-room_more size slots last have has = All-push (λ (s : Slot). s.start + room_of size ≤ s.end) slots last have has
 
 -- a slot that has the same part as before
 pub room_after : (size : ℕ) (slots : List Slot) (p : ℕ) (s t : Slot) → HaveRoom size slots → p < length slots → slice_index_or slots p s ≡ s → t.start ≡ s.start → t.end ≡ s.end → HaveRoom size (slice_set slots p t)

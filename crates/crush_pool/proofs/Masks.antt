@@ -9,14 +9,6 @@ use Rattle.std.proofs.lemmas.Bool.Decides.{nat_tests}
 use Rattle.crush_kinds.specs.Kinds.{height_of}
 use Rattle.crush_pool.specs.Groups.{mask_of, stable_mod}
 
-pub low_power : (k : ℕ) → 2 ^ k < 2 ^ 32 → k < 32
-low_power k small =
-    let either : (k < 32) ⊎ (32 ≤ k) = grind arith in
-    elim either [
-      | inl low ↦ low
-      | inr high ↦ let most : 2 ^ 32 ≤ 2 ^ k = pow_mono high in absurd (omega arith)
-    ]
-
 -- a k with 2^k at least b, below which no power is
 pub height_is : (b k : ℕ) → b ≤ 2 ^ k → ((h : ℕ) → h < k → 2 ^ h < b) → b ≤ 2 ^ height_of b → ((h : ℕ) → h < height_of b → 2 ^ h < b) → k ≡ height_of b
 height_is b k enough below most least =

@@ -54,11 +54,6 @@ each_is groups pairs place d valid low = by (is_pair groups (slice_index_or pair
     by true e = refl
     by false e = absurd (false≢true (sym (list_all_at (is_pair groups) pairs place d low e) ∙ valid))
 
-pub pair_is : (groups : ℕ) (pairs : List Pair) (place : ℕ) → are_pairs groups pairs ≡ true → place < length pairs
-    → is_pair groups (slice_index_or pairs place no_pair) ≡ true
-pair_is groups pairs place valid low =
-    each_is groups pairs place no_pair (and_parts (nat_le (length pairs) PAIR_LIMIT) (list_all (is_pair groups) pairs) valid).1 low
-
 pub few_pairs : (groups : ℕ) (pairs : List Pair) → are_pairs groups pairs ≡ true → length pairs ≤ PAIR_LIMIT
 few_pairs groups pairs valid =
     let few = (and_parts (nat_le (length pairs) PAIR_LIMIT) (list_all (is_pair groups) pairs) valid).0 in

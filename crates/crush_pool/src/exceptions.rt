@@ -258,7 +258,7 @@ fn apply(tables: &Tables, weights: &Weights, pair: Pair, slots: &mut [Slot])
 /// What a rule answered for a group, with the exceptions of that group: at most `SIZE_LIMIT` slots,
 /// in an array of its own. Contracts see the list of them.
 #[derive(Drop)]
-pub struct Excepted {
+pub(crate) struct Excepted {
     slots: ArrayVec<Slot, SIZE_LIMIT>,
 }
 
@@ -292,7 +292,7 @@ impl Excepted {
     }
 
     /// Returns the slots, in order.
-    pub fn items(&self) -> &[Slot]
+    pub(crate) fn items(&self) -> &[Slot]
         ensures value { result.now ≡ self.now }
         ensures fits { length result.now ≤ SIZE_LIMIT }
     {

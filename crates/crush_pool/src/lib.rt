@@ -16,7 +16,7 @@ mod pool;
 mod states;
 
 pub use changes::{DeviceChange, are_valid_changes};
-pub use exceptions::{Excepted, Exceptions, Pair, are_pairs};
+pub use exceptions::{Exceptions, Pair, are_pairs};
 pub use group::{mask_of, stable_mod};
 pub use placer::Placer;
 pub use placing::{Placement, is_up_slot, place, primary_of, rule_with_id};

@@ -7,9 +7,9 @@ ghost use Rattle.crush_select.specs.Weights.{weights_of};
 ghost use Rattle.crush_pool.specs.Placements.{rule_numbered};
 ghost use Rattle.crush_pool.specs.States.{flags_of, reweights};
 
-use crate::exceptions::{Excepted, Exceptions};
-use crate::placing::{Placement, placement_by, rule_with_id, run};
-use crate::pool::Pool;
+use crate::exceptions::Exceptions;
+use crate::placing::{Placement, placement_by, rule_with_id, run, set_up};
+use crate::pool::{Pool, PoolParts};
 use crate::states::{DeviceState, DeviceStates};
 use crush_bucket::{LANES, Scratch, Tables};
 use crush_choose::{Out, can_look_ahead, look_ahead, touches};
@@ -35,6 +35,7 @@ pub struct Placer<'a> {
 
 impl<'a> Model for Placer<'a> {
     ghost use Rattle.std.specs.Prelude.{◌≡◌, Some, true};
+    ghost use Rattle.crush_map.specs.Map.{IsMap};
     ghost use Rattle.crush_bucket.specs.Tables.{tables_of};
     ghost use Rattle.crush_choose.specs.Rules.{CanRun};
     ghost use Rattle.crush_select.specs.Weights.{weights_of};
@@ -48,6 +49,7 @@ impl<'a> Model for Placer<'a> {
     ghost view = { λ a. record { map = a.map.now; states = a.states.now; pool = a.pool.now; pairs = a.exceptions.now } };
 
     ghost invariant = { λ a. record {
+      map : IsMap a.map.now;
       tables : a.tables.now ≡ tables_of a.map.now;
       weights : a.weights.now ≡ weights_of (reweights a.states.now);
       flags : a.flags.now ≡ flags_of a.states.now;
@@ -58,16 +60,17 @@ impl<'a> Model for Placer<'a> {
 }
 
 impl<'a> Placer<'a> {
-    ghost use Rattle.std.specs.Prelude.{◌≡◌, ◌<◌, ◌≤◌, ℕ, List, Some, IfOk, is_some, true, length, option_map};
+    ghost use Rattle.std.specs.Prelude.{◌≡◌, ◌<◌, ◌≤◌, ℕ, List, Some, IfOk, OnOk, is_some, true, length, option_map};
     ghost use Rattle.crush_map.specs.Faults.{has_number};
+    ghost use Rattle.crush_map.specs.Map.{IsMap};
     ghost use Rattle.crush_bucket.specs.Tables.{scratch_of, tables_of};
     ghost use Rattle.crush_choose.specs.Rules.{IsTrace, rule_answer};
     ghost use Rattle.crush_select.specs.Weights.{weights_of};
     ghost use Rattle.crush_select.specs.declared.limits.TheConstants.{SIZE_LIMIT};
     ghost use Rattle.crush_pool.specs.Exceptions.{are_pairs, excepted};
-    ghost use Rattle.crush_pool.specs.Placements.{placement, rule_numbered};
+    ghost use Rattle.crush_pool.specs.Placements.{placement, rule_numbered, up_of};
     ghost use Rattle.crush_pool.specs.Placers.{steps_of};
-    ghost use Rattle.crush_pool.specs.Pools.{seed_of};
+    ghost use Rattle.crush_pool.specs.Pools.{is_pool, seed_of};
     ghost use Rattle.crush_pool.specs.States.{flags_of, reweights};
 
     /// Makes the placer of a pool on a map, with exceptions and states of devices. `None` exactly
@@ -88,7 +91,8 @@ impl<'a> Placer<'a> {
         requires weights { weights.now ≡ weights_of (reweights states.now) }
         requires flags { flags.now ≡ flags_of states.now }
         requires exceptions { are_pairs pool.now.pg_num exceptions.now ≡ true }
-        ensures { result ≡ option_map (λ rule. record { map = map.now; states = states.now; pool = pool.now; pairs = exceptions.now }) (rule_numbered map.now pool.now.rule) }
+        ensures value { result ≡ option_map (λ rule. record { map = map.now; states = states.now; pool = pool.now; pairs = exceptions.now }) (rule_numbered map.now pool.now.rule) }
+        ensures map { IsMap map.now }
     {
         let rule = rule_with_id(map, pool.parts().rule)?;
         Some(Placer {
@@ -106,14 +110,16 @@ impl<'a> Placer<'a> {
     /// Returns the map, which has the pool's rule.
     pub fn map(&self) -> &'a CrushMap
         ensures same { result.now ≡ self.now.map }
+        ensures valid { IsMap self.now.map }
         ensures rule { is_some (rule_numbered self.now.map self.now.pool.rule) ≡ true }
     {
         self.map
     }
 
-    /// Returns the tables of the map.
+    /// Returns the tables of the map, which has the pool's rule.
     pub fn tables(&self) -> &'a Tables
-        ensures { result.now ≡ tables_of self.now.map }
+        ensures same { result.now ≡ tables_of self.now.map }
+        ensures rule { is_some (rule_numbered self.now.map self.now.pool.rule) ≡ true }
     {
         self.tables
     }
@@ -125,21 +131,21 @@ impl<'a> Placer<'a> {
         self.pool
     }
 
+    /// Returns the pool's settings, which are in range.
+    pub fn pool_parts(&self) -> &'a PoolParts
+        ensures same { result.now ≡ self.now.pool }
+        ensures valid { is_pool self.now.pool ≡ true }
+        ensures map { IsMap self.now.map }
+    {
+        self.pool.parts()
+    }
+
     /// Returns the exceptions of the pool.
     pub fn exceptions(&self) -> &'a Exceptions
         ensures same { result.now ≡ self.now.pairs }
         ensures valid { are_pairs self.now.pool.pg_num self.now.pairs ≡ true }
     {
         self.exceptions
-    }
-
-    /// Applies the exceptions of a group to a copy of what the rule answered for it. Allocates
-    /// nothing.
-    pub fn excepted(&self, group: u32, raw: &[Slot]) -> Excepted
-        requires { length raw.now ≤ SIZE_LIMIT }
-        ensures { result ≡ excepted (tables_of self.now.map) (weights_of (reweights self.now.states)) self.now.pairs group raw.now }
-    {
-        Excepted::new(self.tables, self.weights, self.exceptions, group, raw)
     }
 
     /// Returns the flags of the states: which devices are up.
@@ -168,13 +174,14 @@ impl<'a> Placer<'a> {
         );
     }
 
-    /// Picks ahead what the pool's rule asks for first for the group `group` and the seven behind
-    /// it, side by side. What is answered later is the same with and without; it takes less time.
+    /// Picks ahead, at each group that is a multiple of eight, what the pool's rule asks for first
+    /// for the eight groups from there on, side by side. What is answered later is the same with
+    /// and without; where the groups come in order it takes less time.
     pub fn look_ahead(&self, scratch: &mut Scratch, group: u32)
         requires fits { scratch.old ≡ scratch_of (tables_of self.now.map) }
         ensures fits { scratch.new ≡ scratch_of (tables_of self.now.map) }
     {
-        if !can_look_ahead(self.tables, self.rule) {
+        if group % LANES as u32 != 0 || !can_look_ahead(self.tables, self.rule) {
             return;
         }
         let mut xs = [0; LANES];
@@ -183,6 +190,17 @@ impl<'a> Placer<'a> {
         }
         let size = self.pool.parts().size;
         look_ahead(self.tables, scratch, self.rule, xs, size);
+    }
+
+    /// Runs the pool's rule for a group, as one of many in order, as `run` does.
+    pub fn run_next(&self, scratch: &mut Scratch, out: &mut Out, group: u32)
+        requires fits { scratch.old ≡ scratch_of (tables_of self.now.map) }
+        ensures items { out.new.items ≡ rule_answer (tables_of self.now.map) (weights_of (reweights self.now.states)) (steps_of self.now) (seed_of self.now.pool group) self.now.pool.size }
+        ensures trace { IsTrace (tables_of self.now.map) (weights_of (reweights self.now.states)) (steps_of self.now) (seed_of self.now.pool group) self.now.pool.size out.new.trace }
+        ensures fits { scratch.new ≡ scratch_of (tables_of self.now.map) }
+    {
+        self.look_ahead(scratch, group);
+        self.run(scratch, out, group);
     }
 
     /// Returns whether a device is in the trace of a run of the pool's rule for a group. Sets `out`
@@ -204,6 +222,24 @@ impl<'a> Placer<'a> {
             self.weights,
             out,
             device,
+        )
+    }
+
+    /// Sets `up` to the up list of a group for which the pool's rule gave the answer `raw`, which
+    /// isn't longer than `SIZE_LIMIT`. `Err(AllocError)`: an allocation failed.
+    pub fn set_up(&self, up: &mut Vec<Slot>, group: u32, raw: &[Slot]) -> Result<(), AllocError>
+        requires { length raw.now ≤ SIZE_LIMIT }
+        ensures { OnOk result (up.new.items ≡ up_of self.now.pool.erasure (flags_of self.now.states) (excepted (tables_of self.now.map) (weights_of (reweights self.now.states)) self.now.pairs group raw.now)) }
+    {
+        set_up(
+            up,
+            self.tables,
+            self.weights,
+            self.pool,
+            self.exceptions,
+            self.flags,
+            group,
+            raw,
         )
     }
 
@@ -232,7 +268,7 @@ impl<'a> Placer<'a> {
             self.exceptions,
             self.flags,
             group,
-            out,
+            out.items(),
         )?;
         Ok(placement)
     }

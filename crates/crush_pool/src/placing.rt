@@ -1,7 +1,7 @@
 //! Placements: the devices of a group.
 
-ghost use Rattle.std.specs.Prelude.{◌≡◌, ◌<◌, ◌≤◌, List, Some, IfOk, IfErr, IfSome, is_ok, nat_lt, length, option_map, true};
-ghost use Rattle.crush_map.specs.Map.{Map};
+ghost use Rattle.std.specs.Prelude.{◌≡◌, ◌<◌, ◌≤◌, List, Some, IfOk, IfErr, IfSome, OnOk, is_ok, nat_lt, length, option_map, true};
+ghost use Rattle.crush_map.specs.Map.{IsMap, Map};
 ghost use Rattle.crush_bucket.specs.Tables.{scratch_of, tables_of};
 ghost use Rattle.crush_choose.specs.Rules.{CanRun, IsTrace, rule_answer};
 ghost use Rattle.crush_select.specs.Weights.{weights_of};
@@ -40,6 +40,7 @@ pub struct Placement {
 pub fn rule_with_id(map: &CrushMap, id: u32) -> Option<&Rule>
     ensures value { option_map (λ r. r.now) result ≡ spec.rule_numbered map.now id }
     ensures runs { IfSome result (λ r. CanRun (tables_of map.now) r.now) }
+    ensures valid { IsMap map.now }
 {
     rules_of_a_map_can_run();
     map.rules().iter().find(|rule| rule.id == id)
@@ -55,17 +56,17 @@ pub fn is_up_slot(states: &DeviceStates, slot: Slot) -> bool
     }
 }
 
-/// Makes the up list of a replicated or an erasure pool, by what the rule answered, with its
+/// Sets `up` to the up list of a replicated or an erasure pool, by what the rule answered, with its
 /// exceptions. `Err(AllocError)`: an allocation failed.
-fn up_of(
-    alloc: Global,
+fn set_up_of(
+    up: &mut Vec<Slot>,
     erasure: bool,
     states: &DeviceStates,
     raw: &[Slot],
-) -> Result<Vec<Slot>, AllocError>
-    ensures { IfOk result (λ up. up.items ≡ spec.up_of erasure states.now raw.now) }
+) -> Result<(), AllocError>
+    ensures { OnOk result (up.new.items ≡ spec.up_of erasure states.now raw.now) }
 {
-    let mut up = Vec::with_capacity(alloc, raw.len())?;
+    up.clear();
     for slot in raw {
         if is_up_slot(states, *slot) {
             up.push(*slot)?;
@@ -73,14 +74,14 @@ fn up_of(
             up.push(None)?;
         }
     }
-    Ok(up)
+    Ok(())
 }
 
-/// Makes the up list of a group, by what the rule answered for it. Only where the group has
+/// Sets `up` to the up list of a group, by what the rule answered for it. Only where the group has
 /// exceptions they are applied, to a copy of the answer. `Err(AllocError)`: an allocation failed.
 #[tactic(auto, using(crate::proofs::Pairs::nothing_excepted))]
-fn up_with(
-    alloc: Global,
+pub(crate) fn set_up(
+    up: &mut Vec<Slot>,
     tables: &Tables,
     weights: &Weights,
     pool: &Pool,
@@ -88,16 +89,16 @@ fn up_with(
     states: &DeviceStates,
     group: u32,
     raw: &[Slot],
-) -> Result<Vec<Slot>, AllocError>
+) -> Result<(), AllocError>
     requires { length raw.now ≤ SIZE_LIMIT }
-    ensures { IfOk result (λ up. up.items ≡ spec.up_of pool.now.erasure states.now (excepted tables.now weights.now exceptions.now group raw.now)) }
+    ensures { OnOk result (up.new.items ≡ spec.up_of pool.now.erasure states.now (excepted tables.now weights.now exceptions.now group raw.now)) }
 {
     let erasure = pool.parts().erasure;
     if exceptions.concern(group) {
         let changed = Excepted::new(tables, weights, exceptions, group, raw);
-        up_of(alloc, erasure, states, changed.items())
+        set_up_of(up, erasure, states, changed.items())
     } else {
-        up_of(alloc, erasure, states, raw)
+        set_up_of(up, erasure, states, raw)
     }
 }
 
@@ -154,28 +155,23 @@ pub(crate) fn placement_by(
     exceptions: &Exceptions,
     states: &DeviceStates,
     group: u32,
-    out: &Out,
+    raw: &[Slot],
 ) -> Result<Placement, AllocError>
+    requires { length raw.now ≤ SIZE_LIMIT }
     ensures seed { IfOk result (λ p. p.seed ≡ seed_of pool.now group) }
-    ensures raw { IfOk result (λ p. p.raw ≡ out.now.items) }
-    ensures up { IfOk result (λ p. p.up ≡ spec.up_of pool.now.erasure states.now (excepted tables.now weights.now exceptions.now group out.now.items)) }
+    ensures raw { IfOk result (λ p. p.raw ≡ raw.now) }
+    ensures up { IfOk result (λ p. p.up ≡ spec.up_of pool.now.erasure states.now (excepted tables.now weights.now exceptions.now group raw.now)) }
     ensures primary { IfOk result (λ p. p.primary ≡ spec.primary_of p.up) }
 {
-    let raw = copied(alloc, out.items())?;
-    let up = up_with(
-        alloc,
-        tables,
-        weights,
-        pool,
-        exceptions,
-        states,
-        group,
-        out.items(),
+    let copy = copied(alloc, raw)?;
+    let mut up = Vec::with_capacity(alloc, raw.len())?;
+    set_up(
+        &mut up, tables, weights, pool, exceptions, states, group, raw,
     )?;
     let primary = primary_of(&up);
     Ok(Placement {
         seed: pool.seed_of(group),
-        raw: Listed::new(raw),
+        raw: Listed::new(copy),
         up: Listed::new(up),
         primary,
     })
@@ -210,7 +206,14 @@ pub fn place(
     let mut out = Out::build(alloc)?;
     run(tables, scratch, pool, rule, weights, group, &mut out);
     let placement = placement_by(
-        alloc, tables, weights, pool, exceptions, states, group, &out,
+        alloc,
+        tables,
+        weights,
+        pool,
+        exceptions,
+        states,
+        group,
+        out.items(),
     )?;
     Ok(Ok(placement))
 }

@@ -1,6 +1,7 @@
 //! Pools: each `Pool` has a name and numbers that are in range.
 
 ghost use Rattle.std.specs.Prelude.{◌≡◌, ◌<◌, ◌^◌, true, false, IfOk, IfErr, length, is_ok};
+ghost use Rattle.crush_pool.specs.Groups.{mask_of, stable_mod};
 ghost use Rattle.crush_pool.specs.Pools as spec;
 
 use crate::group::{mask_of, stable_mod};
@@ -48,10 +49,15 @@ pub struct PoolParts {
 #[derive(Drop)]
 pub struct Pool {
     parts: PoolParts,
+    /// The mask for its groups.
+    group_mask: u32,
+    /// The mask for the places of its groups.
+    place_mask: u32,
 }
 
 impl Model for Pool {
     ghost use Rattle.std.specs.Prelude.{◌≡◌, true};
+    ghost use Rattle.crush_pool.specs.Groups.{mask_of};
     ghost use Rattle.crush_pool.specs.Pools.{is_pool};
     ghost use Rattle.crush_pool.specs.declared.pool.PoolParts.{PoolParts};
 
@@ -59,7 +65,11 @@ impl Model for Pool {
 
     ghost view = { λ a. a.parts };
 
-    ghost invariant = { λ a. is_pool a.parts ≡ true };
+    ghost invariant = { λ a. record {
+      valid : is_pool a.parts ≡ true;
+      groups : a.group_mask ≡ mask_of a.parts.pg_num;
+      places : a.place_mask ≡ mask_of a.parts.pgp_num;
+    } };
 }
 
 /// Returns whether the numbers and the name are in range.
@@ -81,11 +91,16 @@ impl Pool {
         ensures pool { IfOk result (λ pool. pool ≡ parts) }
         ensures fault { IfErr result (λ fault. fault ≡ PoolFault.P1) }
     {
-        if is_pool(&parts) {
-            Ok(Pool { parts })
-        } else {
-            Err(PoolFault::P1)
+        if !is_pool(&parts) {
+            return Err(PoolFault::P1);
         }
+        let group_mask = mask_of(parts.pg_num);
+        let place_mask = mask_of(parts.pgp_num);
+        Ok(Pool {
+            parts,
+            group_mask,
+            place_mask,
+        })
     }
 
     /// Returns the pool's settings, which are in range.
@@ -103,17 +118,31 @@ impl Pool {
         ensures value { result ≡ spec.group_of self.now name.now }
         ensures there { result < self.now.pg_num }
     {
+        self.group_of_hash(name_hash(name))
+    }
+
+    /// Returns the group of the objects whose names have the hash `hash` (`raw_pg_to_pg` of Ceph).
+    pub fn group_of_hash(&self, hash: u32) -> u32
+        ensures value { result ≡ stable_mod hash self.now.pg_num (mask_of self.now.pg_num) }
+        ensures there { result < self.now.pg_num }
+    {
         numbers_fall_into_groups();
-        let groups = self.parts.pg_num;
-        stable_mod(name_hash(name), groups, mask_of(groups))
+        stable_mod(hash, self.parts.pg_num, self.group_mask)
+    }
+
+    /// Returns the place of a group, which is a group below `pgp_num`. Groups with one place have
+    /// one seed (`laws::groups_have_the_seeds_of_their_places`).
+    pub fn place_of(&self, group: u32) -> u32
+        ensures { result ≡ stable_mod group self.now.pgp_num (mask_of self.now.pgp_num) }
+    {
+        stable_mod(group, self.parts.pgp_num, self.place_mask)
     }
 
     /// Returns the input x with which the rule runs for a group (`raw_pg_to_pps` of Ceph).
     pub fn seed_of(&self, group: u32) -> u32
         ensures { result ≡ spec.seed_of self.now group }
     {
-        let places = self.parts.pgp_num;
-        let place = stable_mod(group, places, mask_of(places));
+        let place = self.place_of(group);
         if self.parts.hashpspool {
             hash2(place, self.parts.id)
         } else {

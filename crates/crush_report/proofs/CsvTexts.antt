@@ -154,8 +154,3 @@ pub one_more : {X : Type 0} (fields : X → List (List ℕ)) (head : List (List 
 one_more fields head rows i d h =
     rw (take_more rows i d h, map-append fields (take i rows) (get_or rows i d ∷ []), flat_map-append (row_text default_writer) (map fields (take i rows)) (fields (get_or rows i d) ∷ []), append-nil (row_text default_writer (fields (get_or rows i d))))
     (append_assoc (row_text default_writer head) _ _)
-
--- the same, with the row by another name
-pub one_more_is : {X : Type 0} (fields : X → List (List ℕ)) (head : List (List ℕ)) (rows : List X) (i : ℕ) (x : X) → i < length rows → x ≡ get_or rows i x
-    → records_text (head ∷ map fields (take i rows)) ++ row_text default_writer (fields x) ≡ records_text (head ∷ map fields (take (i + 1) rows))
-one_more_is fields head rows i x h e = rw (← one_more fields head rows i x h) (ap (λ y. records_text (head ∷ map fields (take i rows)) ++ row_text default_writer (fields y)) e)

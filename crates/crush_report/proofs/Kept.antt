@@ -77,10 +77,9 @@ places_some : (p : PoolParts) → is_pool p ≡ true → 0 < p.pgp_num
 places_some p is = grind (arith, nat_tests, is)
 
 -- nothing is stored
-pub none_kept : (p : PoolOnMap) (a : Answers) → is_pool p.pool ≡ true → a.places.count ≡ p.pool.pgp_num → a.starts.items ≡ [] → AreAnswers p a
-none_kept p a valid count none =
+pub none_kept : (p : PoolOnMap) (a : Answers) → is_pool p.pool ≡ true → a.starts.items ≡ [] → AreAnswers p a
+none_kept p a valid none =
     record {
-      count = count;
       some = places_some p.pool valid;
       size = size_few p.pool valid;
       each = λ place lt. let len : length a.starts.items ≡ 0 = ap length none in absurd (omega (arith, lt, len));

@@ -18,7 +18,7 @@ use Rattle.crush_pool.specs.declared.pool.PoolParts.{PoolParts}
 use Rattle.crush_pool.specs.declared.states.DeviceState.{DeviceState}
 use Rattle.crush_report.specs.Impact.{touched}
 use Rattle.crush_report.specs.Moves.{move_rows}
-use Rattle.crush_report.specs.OnMaps.{answer_on, up_from, up_on, touched_on}
+use Rattle.crush_report.specs.OnMaps.{answer_on, up_on, touched_on}
 use Rattle.crush_report.specs.Reports.{groups, impact, impact_by, moves, moves_by, up_list, usage, usage_by}
 use Rattle.crush_report.specs.Usage.{usage_rows}
 use Rattle.crush_report.proofs.Short.{answer_few as rule_few, up_short, size_few}
@@ -30,16 +30,9 @@ use Rattle.crush_select.specs.declared.limits.TheConstants.{SIZE_LIMIT}
 abbrev up_found : Map → List DeviceState → PoolParts → List Pair → Option Rule → ℕ → List Slot
 up_found m states p pairs found = up_list (tables_of m) (weights_of (reweights states)) (flags_of states) (steps_in found) p pairs
 
-up_placed : (m : Map) (states : List DeviceState) (p : PoolParts) (pairs : List Pair) (group : ℕ) (q : Placement) (found : Option Rule)
-    → option_map (λ r. placed (tables_of m) (weights_of (reweights states)) (flags_of states) r.steps p pairs group) found ≡ Some q → q.up ≡ up_found m states p pairs found group
-up_placed m states p pairs group q None e = let never : None ≡ Some q = e in absurd cc
-up_placed m states p pairs group q (Some rule) e =
-    let is : placed (tables_of m) (weights_of (reweights states)) (flags_of states) rule.steps p pairs group ≡ q = cc in
-    sym (ap (λ (made : Placement). made.up) is)
-
--- that of a placement
-pub up_is : (p : PoolOnMap) (group : ℕ) (q : Placement) → placement p.map p.states p.pool p.pairs group ≡ Some q → q.up ≡ up_on p group
-up_is p group q e = up_placed p.map p.states p.pool p.pairs group q (rule_numbered p.map p.pool.rule) e
+-- the up list of a group for which the rule gave the answer `raw`
+abbrev pub up_from : PoolOnMap → ℕ → List Slot → List Slot
+up_from p group raw = up_of p.pool.erasure (flags_of p.states) (excepted (tables_of p.map) (weights_of (reweights p.states)) p.pairs group raw)
 
 -- that of what the rule answers
 pub up_of_answer : (p : PoolOnMap) (group : ℕ) (raw : List Slot)

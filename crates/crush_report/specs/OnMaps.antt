@@ -4,8 +4,6 @@ use Rattle.crush_bucket.specs.Tables.{tables_of}
 use Rattle.crush_select.specs.Marks.{Slot}
 use Rattle.crush_select.specs.Weights.{weights_of}
 use Rattle.crush_choose.specs.Rules.{rule_answer}
-use Rattle.crush_pool.specs.Exceptions.{excepted}
-use Rattle.crush_pool.specs.Placements.{up_of}
 use Rattle.crush_pool.specs.Placers.{PoolOnMap, steps_of}
 use Rattle.crush_pool.specs.Pools.{seed_of}
 use Rattle.crush_pool.specs.States.{flags_of, reweights}
@@ -15,10 +13,6 @@ use Rattle.crush_report.specs.Reports.{up_list}
 -- the up list of a group
 abbrev pub up_on : PoolOnMap → ℕ → List Slot
 up_on p = up_list (tables_of p.map) (weights_of (reweights p.states)) (flags_of p.states) (steps_of p) p.pool p.pairs
-
--- the up list of a group for which the rule gave the answer `raw`
-abbrev pub up_from : PoolOnMap → ℕ → List Slot → List Slot
-up_from p group raw = up_of p.pool.erasure (flags_of p.states) (excepted (tables_of p.map) (weights_of (reweights p.states)) p.pairs group raw)
 
 -- what the rule answers for a group
 abbrev pub answer_on : PoolOnMap → ℕ → List Slot

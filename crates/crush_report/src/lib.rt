@@ -18,7 +18,6 @@ mod up_runs;
 mod usage_counts;
 pub mod usage_laws;
 
-pub use answers::look_ahead;
 pub use crush_pool::{DeviceChange, are_valid_changes};
 pub use csv_laws::{device_csvs_are_of_the_form, reports_are_read_back};
 pub use csv_read::{CsvFault, read_device_csv};

@@ -1,22 +1,17 @@
 //! The groups of a pool whose up lists differ between two maps.
 
 ghost use Rattle.std.specs.List.{range_with_len};
-ghost use Rattle.std.specs.Prelude.{◌≡◌, ◌<◌, ◌≤◌, ◌*◌, ◌^◌, Some, IfOk, OnOk, length};
-ghost use Rattle.crush_bucket.specs.Tables.{scratch_of, tables_of};
+ghost use Rattle.std.specs.Prelude.{◌≡◌, ◌<◌, ◌≤◌, ◌*◌, ◌^◌, Some, IfOk};
 ghost use Rattle.crush_select.specs.declared.limits.TheConstants.{SIZE_LIMIT};
-ghost use Rattle.crush_pool.specs.Placements.{up_of};
 ghost use Rattle.crush_pool.specs.declared.limits.TheConstants.{GROUP_LIMIT};
 ghost use Rattle.crush_report.specs.Moves as spec;
-ghost use Rattle.crush_report.specs.OnMaps.{up_from, up_on};
-ghost use Rattle.crush_report.specs.Private.Places.{AreAnswers};
+ghost use Rattle.crush_report.specs.OnMaps.{up_on};
 ghost use Rattle.crush_report.specs.Reports.{moves};
 
-use crate::answers::{Answers, run_next};
 use crate::rows::MoveRow;
-use crush_bucket::Scratch;
-use crush_choose::Out;
+use crate::up_runs::UpRun;
 use crush_map::Listed;
-use crush_pool::{DeviceStates, Placer, is_up_slot};
+use crush_pool::Placer;
 use crush_select::limits::SIZE_LIMIT;
 use crush_select::{Slot, has, slot_has};
 use std::alloc::{AllocError, Global};
@@ -120,100 +115,27 @@ pub fn gained_in(rows: &[MoveRow]) -> u64
     total
 }
 
-/// Sets `up` to the up list of a replicated or an erasure pool, by what the rule answered, with its
-/// exceptions. `Err(AllocError)`: an allocation failed.
-fn set_up(
-    up: &mut Vec<Slot>,
-    erasure: bool,
-    flags: &DeviceStates,
-    raw: &[Slot],
-) -> Result<(), AllocError>
-    ensures { OnOk result (up.new.items ≡ up_of erasure flags.now raw.now) }
-{
-    up.clear();
-    for slot in raw {
-        if is_up_slot(flags, *slot) {
-            up.push(*slot)?;
-        } else if erasure {
-            up.push(None)?;
-        }
-    }
-    Ok(())
-}
-
-/// Sets `up` to the up list of a group for which the rule gave the answer `raw`.
-/// `Err(AllocError)`: an allocation failed.
-fn set_up_by(
-    up: &mut Vec<Slot>,
-    placer: &Placer,
-    group: u32,
-    raw: &[Slot],
-) -> Result<(), AllocError>
-    requires { length raw.now ≤ SIZE_LIMIT }
-    ensures { OnOk result (up.new.items ≡ up_from placer.now group raw.now) }
-{
-    let erasure = placer.pool().parts().erasure;
-    if placer.exceptions().concern(group) {
-        let changed = placer.excepted(group, raw);
-        set_up(up, erasure, placer.flags(), changed.items())
-    } else {
-        set_up(up, erasure, placer.flags(), raw)
-    }
-}
-
-/// Sets `up` to the up list of a group. The rule runs where the answer for the group's place isn't
-/// stored. `Err(AllocError)`: an allocation failed.
-pub(crate) fn set_up_of(
-    up: &mut Vec<Slot>,
-    placer: &Placer,
-    answers: &Answers,
-    scratch: &mut Scratch,
-    out: &mut Out,
-    group: u32,
-) -> Result<(), AllocError>
-    requires answers { AreAnswers placer.now answers.now }
-    requires fits { scratch.old ≡ scratch_of (tables_of placer.now.map) }
-    ensures up { OnOk result (up.new.items ≡ up_on placer.now group) }
-    ensures fits { scratch.new ≡ scratch_of (tables_of placer.now.map) }
-{
-    match answers.kept(group) {
-        Some(raw) => set_up_by(up, placer, group, raw),
-        None => {
-            run_next(placer, scratch, out, group);
-            set_up_by(up, placer, group, out.items())
-        }
-    }
-}
-
 /// The most words of 8 bytes a group that are stored of the answers on each of the two maps.
 const WORDS_KEPT: u32 = 2;
 
-/// Finds the groups of a pool whose up lists differ between two maps, in order.
-/// `Err(AllocError)`: an allocation failed.
+/// Finds which of the first `count` groups of a pool have another up list on the map of `to` than
+/// on that of `from`, in order. `Err(AllocError)`: an allocation failed.
 #[tactic(auto, using(crate::proofs::Groups::moves_more))]
 fn moved_rows(
     alloc: Global,
-    from: &Placer,
-    to: &Placer,
-    olds: &Answers,
-    news: &Answers,
-    old_scratch: &mut Scratch,
-    new_scratch: &mut Scratch,
-    out: &mut Out,
+    from: &mut UpRun,
+    to: &mut UpRun,
+    count: u32,
 ) -> Result<Listed<MoveRow>, AllocError>
-    requires olds { AreAnswers from.now olds.now }
-    requires news { AreAnswers to.now news.now }
-    requires first { old_scratch.old ≡ scratch_of (tables_of from.now.map) }
-    requires second { new_scratch.old ≡ scratch_of (tables_of to.now.map) }
-    ensures { IfOk result (λ rows. rows ≡ spec.move_rows (up_on from.now) (up_on to.now) (range_with_len 0 from.now.pool.pg_num)) }
+    ensures { IfOk result (λ rows. rows ≡ spec.move_rows (up_on from.old) (up_on to.old) (range_with_len 0 count)) }
 {
     let mut old = Vec::with_capacity(alloc, SIZE_LIMIT)?;
     let mut new = Vec::with_capacity(alloc, SIZE_LIMIT)?;
     let mut rows = Vec::new(alloc);
-    for group in 0..from.pool().parts().pg_num {
-        set_up_of(&mut old, from, olds, old_scratch, out, group)?;
-        set_up_of(&mut new, to, news, new_scratch, out, group)?;
-        let moved = move_between(alloc, group, &old, &new)?;
+    for group in 0..count {
+        from.set_up(&mut old, group)?;
+        to.set_up(&mut new, group)?;
+        let moved = move_between(alloc, group, old.as_slice(), new.as_slice())?;
         if let Some(row) = moved {
             rows.push(row)?;
         }
@@ -230,23 +152,9 @@ pub fn moves_with(alloc: Global, from: &Placer, to: &Placer) -> Result<Listed<Mo
     ensures rows { IfOk result (λ rows. Some rows ≡ moves from.now.map to.now.map from.now.states from.now.pool from.now.pairs) }
     ensures gained { IfOk result (λ rows. spec.gained_in rows ≤ SIZE_LIMIT * GROUP_LIMIT) }
 {
-    let _first = from.map();
-    let _second = to.map();
-    let _parts = from.pool().parts();
-    let mut old_scratch = Scratch::for_many(alloc, from.tables())?;
-    let mut new_scratch = Scratch::for_many(alloc, to.tables())?;
-    let mut out = Out::build(alloc)?;
-    let olds = Answers::build(alloc, from, &mut old_scratch, &mut out, WORDS_KEPT)?;
-    let news = Answers::build(alloc, to, &mut new_scratch, &mut out, WORDS_KEPT)?;
-    let rows = moved_rows(
-        alloc,
-        from,
-        to,
-        &olds,
-        &news,
-        &mut old_scratch,
-        &mut new_scratch,
-        &mut out,
-    )?;
+    let count = from.pool_parts().pg_num;
+    let mut old = UpRun::build(alloc, &*from, WORDS_KEPT)?;
+    let mut new = UpRun::build(alloc, &*to, WORDS_KEPT)?;
+    let rows = moved_rows(alloc, &mut old, &mut new, count)?;
     Ok(rows)
 }

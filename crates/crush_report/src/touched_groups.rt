@@ -31,7 +31,7 @@ fn is_touched(
     if placer.exceptions().lead_to(group, device) {
         return true;
     }
-    match traced.kept(group) {
+    match traced.kept(placer, group) {
         Some(found) => found,
         None => is_traced(placer, scratch, out, device, group),
     }
@@ -46,12 +46,11 @@ fn is_touched(
 pub fn impact_with(alloc: Global, placer: &Placer, device: u32) -> Result<Listed<u32>, AllocError>
     ensures { IfOk result (λ found. Some found ≡ impact placer.now.map placer.now.states placer.now.pool placer.now.pairs device) }
 {
-    let _map = placer.map();
     let mut scratch = Scratch::for_many(alloc, placer.tables())?;
     let mut out = Out::build(alloc)?;
     let traced = Traced::build(alloc, placer, &mut scratch, &mut out, device)?;
     let mut found = Vec::new(alloc);
-    for group in 0..placer.pool().parts().pg_num {
+    for group in 0..placer.pool_parts().pg_num {
         if is_touched(placer, &traced, &mut scratch, &mut out, device, group) {
             found.push(group)?;
         }

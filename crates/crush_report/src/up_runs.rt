@@ -1,7 +1,6 @@
 //! The up lists of a pool's groups, one after the other.
 
 use crate::answers::Answers;
-use crate::moved_groups::set_up_of;
 use crush_bucket::Scratch;
 use crush_choose::Out;
 use crush_pool::Placer;
@@ -36,13 +35,15 @@ impl<'a> Model for UpRun<'a> {
 }
 
 impl<'a> UpRun<'a> {
-    ghost use Rattle.std.specs.Prelude.{◌≡◌, IfOk, OnOk};
+    ghost use Rattle.std.specs.Prelude.{◌≡◌, IfOk, OnOk, is_some, true};
+    ghost use Rattle.crush_pool.specs.Placements.{rule_numbered};
     ghost use Rattle.crush_report.specs.OnMaps.{up_on};
 
     /// Makes the run that finds the up lists of the placer's pool. It stores at most `most` words
     /// of 8 bytes a group of what groups share. `Err(AllocError)`: an allocation failed.
     pub fn build(alloc: Global, placer: &'a Placer<'a>, most: u32) -> Result<UpRun<'a>, AllocError>
-        ensures { IfOk result (λ run. run ≡ placer.now) }
+        ensures same { IfOk result (λ run. run ≡ placer.now) }
+        ensures rule { is_some (rule_numbered placer.now.map placer.now.pool.rule) ≡ true }
     {
         let mut scratch = Scratch::for_many(alloc, placer.tables())?;
         let mut out = Out::build(alloc)?;
@@ -55,19 +56,20 @@ impl<'a> UpRun<'a> {
         })
     }
 
-    /// Sets `up` to the up list of a group. It takes least time where groups come in order.
-    /// `Err(AllocError)`: an allocation failed.
+    /// Sets `up` to the up list of a group. The rule runs where the answer for the group's place
+    /// isn't stored; it takes least time where groups come in order. `Err(AllocError)`: an
+    /// allocation failed.
     pub fn set_up(&mut self, up: &mut Vec<Slot>, group: u32) -> Result<(), AllocError>
         ensures up { OnOk result (up.new.items ≡ up_on self.old group) }
         ensures same { self.new ≡ self.old }
     {
-        set_up_of(
-            up,
-            self.placer,
-            &self.answers,
-            &mut self.scratch,
-            &mut self.out,
-            group,
-        )
+        let placer = self.placer;
+        match self.answers.kept(placer, group) {
+            Some(raw) => placer.set_up(up, group, raw),
+            None => {
+                placer.run_next(&mut self.scratch, &mut self.out, group);
+                placer.set_up(up, group, self.out.items())
+            }
+        }
     }
 }

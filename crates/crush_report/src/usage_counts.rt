@@ -1,24 +1,17 @@
 //! How much of a pool lies on each device.
 
-ghost use Rattle.std.specs.Prelude.{◌≡◌, ◌<◌, ◌≤◌, ◌+◌, ◌*◌, ◌^◌, ◌++◌, ◌∷◌, [], ℕ, List, Some, IfOk, length, map};
-ghost use Rattle.crush_bucket.specs.Tables.{scratch_of, tables_of};
-ghost use Rattle.crush_select.specs.Marks.{Slot};
-ghost use Rattle.crush_select.specs.declared.limits.TheConstants.{SIZE_LIMIT};
-ghost use Rattle.crush_report.specs.OnMaps.{up_from, up_on};
-ghost use Rattle.crush_report.specs.Private.Places.{AreAnswers};
-ghost use Rattle.crush_report.specs.Private.Tallies.{HasRoom, IsTally, count_at, id_bound, row_by};
+ghost use Rattle.std.specs.Prelude.{◌≡◌, ◌<◌, ◌*◌, ◌^◌, ℕ, Some, IfOk, map};
+ghost use Rattle.crush_report.specs.Private.Tallies.{count_at, id_bound, row_by};
 ghost use Rattle.crush_report.specs.Usage as spec;
-ghost use Rattle.crush_report.specs.Reports.{groups, usage};
+ghost use Rattle.crush_report.specs.Reports.{usage};
 
-use crate::answers::{Answers, run_next};
 use crate::counts::{count_if, count_slot, is_again};
 use crate::rows::UsageRow;
-use crush_bucket::Scratch;
-use crush_choose::Out;
+use crate::up_runs::UpRun;
 use crush_map::{Device, Listed};
-use crush_pool::laws::both_kinds_of_pools_have_the_same_devices;
-use crush_pool::{DeviceStates, Placer, is_up_slot};
+use crush_pool::Placer;
 use crush_select::Slot;
+use crush_select::limits::SIZE_LIMIT;
 use std::alloc::{AllocError, Global};
 use std::marker::Model;
 
@@ -41,12 +34,11 @@ impl Model for Tally {
 }
 
 impl Tally {
-    ghost use Rattle.std.specs.Prelude.{◌≡◌, ◌<◌, ◌≤◌, ◌+◌, ◌*◌, ◌^◌, ◌&&◌, ℕ, Bool, true, List, [], ◌∷◌, ◌++◌, if◌then◌else◌, IfOk, length};
+    ghost use Rattle.std.specs.Prelude.{◌≡◌, ◌<◌, ◌≤◌, ◌+◌, ◌*◌, ◌^◌, ◌&&◌, ℕ, List, [], ◌∷◌, ◌++◌, if◌then◌else◌, IfOk, length};
     ghost use Rattle.crush_select.specs.Marks.{Slot};
     ghost use Rattle.crush_select.specs.Firstn.{slot_has};
     ghost use Rattle.crush_select.specs.declared.limits.TheConstants.{SIZE_LIMIT};
-    ghost use Rattle.crush_pool.specs.Placements.{up_of};
-    ghost use Rattle.crush_report.specs.Private.Tallies.{IsTally, IsCounting, HasRoom, HasSameLengths, count_at, row_by};
+    ghost use Rattle.crush_report.specs.Private.Tallies.{IsTally, HasRoom, HasSameLengths, count_at, row_by};
     ghost use Rattle.crush_pool.specs.Exceptions.{device_item};
 
     /// Makes the counts over no list, for the devices with ids below a bound. `Err(AllocError)`: an
@@ -81,42 +73,24 @@ impl Tally {
         self.filled += 1;
     }
 
-    /// Counts the entries of one more answer of a rule whose devices are up.
-    fn count_up(&mut self, raw: &[Slot], flags: &DeviceStates)
-        requires short { length raw.now ≤ SIZE_LIMIT }
+    /// Counts the entries of one more up list.
+    fn add(&mut self, up: &[Slot])
+        requires short { length up.now ≤ SIZE_LIMIT }
         requires groups { HasRoom self.old.groups SIZE_LIMIT }
         requires entries { HasRoom self.old.entries SIZE_LIMIT }
         requires primaries { HasRoom self.old.primaries SIZE_LIMIT }
         requires filled { self.old.filled + SIZE_LIMIT < 2 ^ 32 }
-        ensures { IsCounting flags.now raw.now true self.old [] self.new }
+        ensures { (bound : ℕ) (ups : List (List Slot)) → IsTally bound ups self.old → IsTally bound (ups ++ up.now ∷ []) self.new }
     {
-        let mut rest = raw;
+        let mut rest = up;
         let mut first = true;
         while let [slot, others @ ..] = rest {
-            if is_up_slot(flags, *slot) {
+            if slot.is_some() {
                 self.count(*slot, !is_again(*slot, others), first);
                 first = false;
             }
             rest = others;
         }
-    }
-
-    /// Counts the up list of one more group, for which the rule gave the answer `raw`, with its
-    /// exceptions.
-    ///
-    /// An entry counts where its device is up, and the first one that counts is the primary. So it
-    /// is in both kinds of pools: the other entries leave the up list of a replicated pool, and
-    /// become none in that of an erasure pool.
-    fn add(&mut self, raw: &[Slot], flags: &DeviceStates)
-        requires short { length raw.now ≤ SIZE_LIMIT }
-        requires groups { HasRoom self.old.groups SIZE_LIMIT }
-        requires entries { HasRoom self.old.entries SIZE_LIMIT }
-        requires primaries { HasRoom self.old.primaries SIZE_LIMIT }
-        requires filled { self.old.filled + SIZE_LIMIT < 2 ^ 32 }
-        ensures { (bound : ℕ) (ups : List (List Slot)) (erasure : Bool) → IsTally bound ups self.old → IsTally bound (ups ++ up_of erasure flags.now raw.now ∷ []) self.new }
-    {
-        both_kinds_of_pools_have_the_same_devices();
-        self.count_up(raw, flags);
     }
 
     /// Returns the row of a device.
@@ -167,66 +141,6 @@ fn bound_of(devices: &[Device]) -> usize
 /// The most words of 8 bytes a group that are stored of answers.
 const WORDS_KEPT: u32 = 4;
 
-/// Counts the up list of one more group, for which the rule gave the answer `raw`.
-fn add_group(tally: &mut Tally, placer: &Placer, group: u32, raw: &[Slot])
-    requires short { length raw.now ≤ SIZE_LIMIT }
-    requires groups { HasRoom tally.old.groups SIZE_LIMIT }
-    requires entries { HasRoom tally.old.entries SIZE_LIMIT }
-    requires primaries { HasRoom tally.old.primaries SIZE_LIMIT }
-    requires filled { tally.old.filled + SIZE_LIMIT < 2 ^ 32 }
-    ensures { (bound : ℕ) (ups : List (List Slot)) → IsTally bound ups tally.old → IsTally bound (ups ++ up_from placer.now group raw.now ∷ []) tally.new }
-{
-    if placer.exceptions().concern(group) {
-        tally.add(placer.excepted(group, raw).items(), placer.flags());
-    } else {
-        tally.add(raw, placer.flags());
-    }
-}
-
-/// Counts the up list of one more group. The rule runs where the answer for the group's place isn't
-/// stored.
-fn count_group(
-    tally: &mut Tally,
-    placer: &Placer,
-    answers: &Answers,
-    scratch: &mut Scratch,
-    out: &mut Out,
-    group: u32,
-)
-    requires answers { AreAnswers placer.now answers.now }
-    requires fits { scratch.old ≡ scratch_of (tables_of placer.now.map) }
-    requires groups { HasRoom tally.old.groups SIZE_LIMIT }
-    requires entries { HasRoom tally.old.entries SIZE_LIMIT }
-    requires primaries { HasRoom tally.old.primaries SIZE_LIMIT }
-    requires filled { tally.old.filled + SIZE_LIMIT < 2 ^ 32 }
-    ensures tally { (bound : ℕ) (ups : List (List Slot)) → IsTally bound ups tally.old → IsTally bound (ups ++ up_on placer.now group ∷ []) tally.new }
-    ensures fits { scratch.new ≡ scratch_of (tables_of placer.now.map) }
-{
-    match answers.kept(group) {
-        Some(raw) => add_group(tally, placer, group, raw),
-        None => {
-            run_next(placer, scratch, out, group);
-            add_group(tally, placer, group, out.items());
-        }
-    }
-}
-
-/// Counts the up lists of all groups of a pool, for `devices`. `Err(AllocError)`: an allocation
-/// failed.
-fn tally_of(alloc: Global, devices: &[Device], placer: &Placer) -> Result<Tally, AllocError>
-    ensures few { IfOk result (λ t. (id : ℕ) → 1000 * count_at t.entries id < 2 ^ 32) }
-    ensures tally { IfOk result (λ t. IsTally (id_bound devices.now) (map (up_on placer.now) (groups placer.now.pool)) t) }
-{
-    let mut scratch = Scratch::for_many(alloc, placer.tables())?;
-    let mut out = Out::build(alloc)?;
-    let answers = Answers::build(alloc, placer, &mut scratch, &mut out, WORDS_KEPT)?;
-    let mut tally = Tally::new(alloc, bound_of(devices))?;
-    for group in 0..placer.pool().parts().pg_num {
-        count_group(&mut tally, placer, &answers, &mut scratch, &mut out, group);
-    }
-    Ok(tally)
-}
-
 /// Makes a row for each device, in the order of the devices. `Err(AllocError)`: an allocation
 /// failed.
 fn rows_of(alloc: Global, devices: &[Device], tally: &Tally) -> Result<Listed<UsageRow>, AllocError>
@@ -245,8 +159,15 @@ fn rows_of(alloc: Global, devices: &[Device], tally: &Tally) -> Result<Listed<Us
 pub fn usage_with(alloc: Global, placer: &Placer) -> Result<Listed<UsageRow>, AllocError>
     ensures { IfOk result (λ rows. Some rows ≡ usage placer.now.map placer.now.states placer.now.pool placer.now.pairs) }
 {
+    let parts = placer.pool_parts();
     let devices = placer.map().devices();
-    let tally = tally_of(alloc, devices, placer)?;
+    let mut run = UpRun::build(alloc, &*placer, WORDS_KEPT)?;
+    let mut up = Vec::with_capacity(alloc, SIZE_LIMIT)?;
+    let mut tally = Tally::new(alloc, bound_of(devices))?;
+    for group in 0..parts.pg_num {
+        run.set_up(&mut up, group)?;
+        tally.add(up.as_slice());
+    }
     let rows = rows_of(alloc, devices, &tally)?;
     Ok(rows)
 }

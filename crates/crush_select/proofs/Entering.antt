@@ -110,10 +110,6 @@ are_firstn_entries t w c marks is = record {
 -- ---- from entries to marks
 
 module _ (t : TablesView) (w : List ℕ) (c : FirstnCall) (found : List Entry) (are : AreFirstnEntries t w c found) where
-  -- the marks of the first reps
-  marks_of : ℕ → Marks
-  marks_of k = grown (mark_of t w c) k
-
   -- the entry of a rep is what its mark places
   spot_is : (k : ℕ) → k < c.numrep → before k found ≡ entries (grown (mark_of t w c) k) → spot_of k found ≡ placed_at (mark_of t w c (grown (mark_of t w c) k) k)
   spot_is k lt same =

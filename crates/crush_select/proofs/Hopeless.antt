@@ -70,11 +70,6 @@ pub no_leaf : PicksItems → (t : TablesView) (w : List ℕ) (c : FirstnCall) (l
 unfolding leaf_below
 no_leaf picks t w c leaves bucket start none = least_silent _ c.leaf_tries (λ g lt. no_leaf_by picks t w c leaves bucket (start + g) none)
 
--- the same as asked for items of type 0 without a leaf
-pub leaf_asked : (t : TablesView) (w : List ℕ) (x : ℕ) (leaves : List Slot) (bucket : ℕ) → can_choose t w x 0 leaves false [] bucket ≡ can_have_leaf t w x leaves bucket
-unfolding can_choose
-leaf_asked t w x leaves bucket = refl
-
 -- where it counts whether a leaf is required, one is, and there is none
 pub wants_leaf : (tries : ℕ) (can : Bool) → (if nat_lt 0 tries then can else true) ≡ false → ((tries == 0) ≡ false) × (can ≡ false)
 wants_leaf zero can e = cc

@@ -3,7 +3,7 @@ use Rattle.std.proofs.Common.{◌≡◌, ℕ, zero, suc, ◌+◌, ◌*◌, ◌<�
 use Rattle.std.proofs.lemmas.Bool.Decides.{nat_tests}
 use Rattle.crush_types.specs.declared.ItemId.{ItemId}
 use Rattle.crush_bucket.specs.Tables.{TablesView, pick_at, type_at, size_at, bucket_numbered, IsBelow}
-use Rattle.crush_select.specs.declared.walk.Reached.TheVariants.{Empty, Wrong, Found}
+use Rattle.crush_select.specs.declared.walk.Reached.TheVariants.{Wrong, Found}
 use Rattle.crush_select.specs.Reach.{at_item, reach_below, reach}
 
 -- a walk from one bucket ends where the walk from a later one ends, whose number is below n
@@ -15,14 +15,6 @@ pub record GoesOn (t : TablesView) (x : ℕ) (rr : ℕ → ℕ) (wanted from buc
 pub walk-start : (t : TablesView) (x : ℕ) (rr : ℕ → ℕ) (wanted from : ℕ) → GoesOn t x rr wanted from from
 unfolding reach
 walk-start t x rr wanted from = record { n = suc from; below = omega arith; same = refl }
-
-ends_empty : (t : TablesView) (x : ℕ) (rr : ℕ → ℕ) (wanted from bucket n : ℕ) → bucket < n
-    → reach t x rr wanted from ≡ reach_below t x rr wanted n bucket → (size_at t bucket == 0) ≡ true → reach t x rr wanted from ≡ Empty
-ends_empty t x rr wanted from bucket zero lt same e = absurd (omega arith)
-ends_empty t x rr wanted from bucket (suc n) lt same e = same ∙ rw e refl
-
-pub walk-empty : (t : TablesView) (x : ℕ) (rr : ℕ → ℕ) (wanted from bucket : ℕ) → GoesOn t x rr wanted from bucket → (size_at t bucket == 0) ≡ true → reach t x rr wanted from ≡ Empty
-walk-empty t x rr wanted from bucket on e = ends_empty t x rr wanted from bucket on.n on.below on.same e
 
 -- the rest of a walk after a pick
 pub record Picks (t : TablesView) (x : ℕ) (rr : ℕ → ℕ) (wanted from bucket : ℕ) (item : ItemId) (r : ℕ) : Type 0 where

@@ -4,7 +4,7 @@ use Rattle.std.specs.List.{list_any}
 use Rattle.std.proofs.Math.ListN.{length-set}
 use Rattle.std.proofs.Math.Nat.{eq-or-lt_of_le}
 use Rattle.std.proofs.lemmas.Bool.Decides.{nat_tests}
-use Rattle.std.proofs.lemmas.List.{get_or-replicate, length-replicate}
+use Rattle.std.proofs.lemmas.List.{get_or-replicate}
 use Rattle.std.proofs.lemmas.List.Folds.{list_any_at}
 use Rattle.crush_types.specs.declared.ItemId.{ItemId}
 use Rattle.crush_map.specs.declared.limits.TheConstants.{BUCKET_LIMIT}
@@ -100,9 +100,6 @@ next_mark t wanted p found b below lt marks =
     (λ k numbered.
     let less : k < b = number_below t b i k below lt few numbered in
     marks k less ∙ reach_same t wanted p p k (suc k) b k below (λ item low. refl) (omega arith) (omega arith) (omega arith) (omega arith)))
-
-pub none_marked : (t : TablesView) (wanted : ℕ) (p : ItemId → Bool) → IsMarked t wanted p 0 (replicate BUCKET_LIMIT false)
-none_marked t wanted p = record { long = length-replicate BUCKET_LIMIT false; each = λ k lt. absurd (omega arith) }
 
 -- one more mark
 pub more_marked : (t : TablesView) (wanted : ℕ) (p : ItemId → Bool) (found : List Bool) (b : ℕ) (mark : Bool) → b < BUCKET_LIMIT → IsMarked t wanted p b found

@@ -7,14 +7,14 @@ ghost use Rattle.crush_select.specs.Firstn.{IsFirstnCall, IsFirstnAnswer};
 ghost use Rattle.crush_select.specs.Marks.{Marks, items_of, leaves_of};
 ghost use Rattle.crush_select.specs.Private.Decisions.{IsDecision, mark_in};
 ghost use Rattle.crush_select.specs.Private.Reachable.{firstn_can_place};
-ghost use Rattle.crush_map.specs.declared.limits.TheConstants.{BUCKET_LIMIT, TRIES_LIMIT, COUNT_LIMIT, VARY_R_LIMIT};
+ghost use Rattle.crush_map.specs.declared.limits.TheConstants.{BUCKET_LIMIT, TRIES_LIMIT, COUNT_LIMIT};
 ghost use Rattle.crush_select.specs.declared.limits.TheConstants.{SIZE_LIMIT};
 
 use crate::effort::Effort;
 use crate::mark::{Mark, Spot};
-use crate::reachable::can_choose;
+use crate::reachable::{can_choose, can_have_leaf};
 use crate::row::{Row, Slot};
-use crate::walk::{Reached, reach_by};
+use crate::walk::{Reached, Walk, reach_by};
 use crate::weights::{Weights, is_device_in};
 use crush_bucket::{BucketNo, Scratch, Tables};
 use crush_kinds::laws::a_pick_is_pickable;
@@ -60,165 +60,6 @@ pub fn has(slots: &[Slot], item: ItemId) -> bool
     slots.iter().any(|slot| slot_has(*slot, item))
 }
 
-/// Makes one attempt for a leaf below a bucket. Returns the leaf that it finds, if it finds one.
-#[tactic(auto, unfolding(crate::specs::Firstn::leaf_by))]
-fn leaf_by(
-    tables: &Tables,
-    scratch: &mut Scratch,
-    weights: &Weights,
-    call: &FirstnCall,
-    leaves: &[Slot],
-    bucket: BucketNo,
-    r: u32,
-    effort: &mut Effort,
-) -> Option<ItemId>
-    requires bucket { bucket < length tables.now.buckets }
-    requires fits { scratch.old ≡ scratch_of tables.now }
-    requires low { r < 2 ^ 31 }
-    ensures value { result ≡ spec.leaf_by tables.now weights.now call.now leaves.now bucket r }
-    ensures fits { scratch.new ≡ scratch_of tables.now }
-{
-    match reach_by(tables, scratch, call.x, r, 0, bucket, effort) {
-        Reached::Found(item, _) if is_device_in(weights, call.x, item) && !has(leaves, item) => {
-            Some(item)
-        }
-        _ => None,
-    }
-}
-
-/// Returns the first attempt for a leaf below a bucket that attempt r found, after `count` items
-/// were chosen.
-fn leaf_start(call: &FirstnCall, count: u32, r: u32) -> u32
-    requires low { r < 2 ^ 16 }
-    requires few { count ≤ SIZE_LIMIT }
-    requires vary_r { call.now.vary_r ≤ VARY_R_LIMIT }
-    ensures value { result ≡ spec.leaf_start call.now count r }
-    ensures low { result < 2 ^ 17 }
-{
-    let base = if call.stable == 1 { 0 } else { count };
-    let sub = if call.vary_r == 0 {
-        0
-    } else {
-        r >> (call.vary_r - 1)
-    };
-    base + sub
-}
-
-/// Finds the leaf of the first attempt that finds one. It gives up where none can.
-#[tactic(auto, unfolding(crate::specs::Firstn::leaf_below))]
-fn leaf_below(
-    tables: &Tables,
-    scratch: &mut Scratch,
-    weights: &Weights,
-    call: &FirstnCall,
-    leaves: &[Slot],
-    bucket: BucketNo,
-    start: u32,
-    effort: &mut Effort,
-) -> Option<ItemId>
-    requires bucket { bucket < length tables.now.buckets }
-    requires fits { scratch.old ≡ scratch_of tables.now }
-    requires from { call.now.bucket < length tables.now.buckets }
-    requires low { start < 2 ^ 17 }
-    requires few { call.now.leaf_tries ≤ TRIES_LIMIT }
-    ensures value { result ≡ spec.leaf_below tables.now weights.now call.now leaves.now bucket start }
-    ensures fits { scratch.new ≡ scratch_of tables.now }
-{
-    a_pick_is_pickable();
-    let since = effort.spent();
-    let mut asked = false;
-    for g in 0..call.leaf_tries {
-        let r = start + g;
-        let leaf = leaf_by(tables, scratch, weights, call, leaves, bucket, r, effort);
-        if leaf.is_some() {
-            return leaf;
-        }
-        if !asked && effort.is_due(tables, call.bucket, since) {
-            asked = true;
-            if !can_choose(tables, weights, call.x, 0, leaves, false, &[], bucket) {
-                return None;
-            }
-        }
-    }
-    None
-}
-
-/// Finds the leaf of an item that attempt r found, after `count` items were chosen.
-fn leaf_of(
-    tables: &Tables,
-    scratch: &mut Scratch,
-    weights: &Weights,
-    call: &FirstnCall,
-    leaves: &[Slot],
-    count: u32,
-    item: ItemId,
-    r: u32,
-    effort: &mut Effort,
-) -> Option<ItemId>
-    requires call { IsFirstnCall tables.now call.now }
-    requires fits { scratch.old ≡ scratch_of tables.now }
-    requires few { count ≤ SIZE_LIMIT }
-    requires low { r < 2 ^ 16 }
-    ensures value { result ≡ spec.leaf_of tables.now weights.now call.now leaves.now count item r (bucket_numbered tables.now item) }
-    ensures fits { scratch.new ≡ scratch_of tables.now }
-{
-    match tables.bucket_of(item) {
-        None => is_device_in(weights, call.x, item).then_some(item),
-        Some(_) if call.leaf_tries == 0 => Some(item),
-        Some(bucket) => {
-            let start = leaf_start(call, count, r);
-            leaf_below(
-                tables, scratch, weights, call, leaves, bucket, start, effort,
-            )
-        }
-    }
-}
-
-/// Makes one try of a rep, given the items and leaves of smaller reps. Returns `None` if it fails.
-#[tactic(auto, unfolding(crate::specs::Firstn::firstn_try))]
-fn firstn_try(
-    tables: &Tables,
-    scratch: &mut Scratch,
-    weights: &Weights,
-    call: &FirstnCall,
-    items: &[Slot],
-    leaves: &[Slot],
-    rep: u32,
-    round: u32,
-    effort: &mut Effort,
-) -> Option<Mark>
-    requires call { IsFirstnCall tables.now call.now }
-    requires fits { scratch.old ≡ scratch_of tables.now }
-    requires few { length items.now ≤ SIZE_LIMIT }
-    requires rep { rep ≤ COUNT_LIMIT }
-    requires round { round ≤ TRIES_LIMIT }
-    ensures value { result ≡ spec.firstn_try tables.now weights.now call.now items.now leaves.now rep round }
-    ensures fits { scratch.new ≡ scratch_of tables.now }
-{
-    let end = reach_by(
-        tables,
-        scratch,
-        call.x,
-        rep + round,
-        call.wanted,
-        call.bucket,
-        effort,
-    );
-    let (item, r) = match end {
-        Reached::Found(item, r) => (item, r),
-        Reached::Empty => return None,
-        Reached::Wrong => return Some(Mark::Skipped),
-    };
-    if has(items, item) {
-        return None;
-    }
-    let count = items.len() as u32;
-    let leaf = leaf_of(
-        tables, scratch, weights, call, leaves, count, item, r, effort,
-    )?;
-    Some(Mark::Placed(Spot { round, item, leaf }))
-}
-
 /// What is decided of a rep.
 #[derive(Clone, Copy)]
 enum Decision {
@@ -228,92 +69,210 @@ enum Decision {
     Hopeless,
 }
 
-/// Returns whether a try can place an item, given the `items` and `leaves` of smaller reps.
-fn can_place(
-    tables: &Tables,
-    weights: &Weights,
-    call: &FirstnCall,
-    items: &[Slot],
-    leaves: &[Slot],
-) -> bool
-    requires { call.now.bucket < length tables.now.buckets }
-    ensures { result ≡ (nat_le BUCKET_LIMIT call.now.bucket || firstn_can_place tables.now weights.now call.now items.now leaves.now) }
-{
-    let leaf = call.leaf_tries > 0;
-    can_choose(
-        tables,
-        weights,
-        call.x,
-        call.wanted,
-        items,
-        leaf,
-        leaves,
-        call.bucket,
-    )
+/// A call of `choose_firstn`, with the items and leaves of the reps so far.
+#[derive(Clone, Copy)]
+struct Firstn<'a> {
+    tables: &'a Tables,
+    weights: &'a Weights,
+    call: &'a FirstnCall,
+    items: &'a [Slot],
+    leaves: &'a [Slot],
+    ghost in_range: { IsFirstnCall tables.now call.now },
+    ghost few: { length items.now ≤ call.now.room },
 }
 
-/// Decides a rep: its mark is that of its first try that doesn't fail. It gives up where no try can
-/// place an item.
-#[tactic(auto, unfolding(crate::specs::Firstn::decided))]
-fn decide(
-    tables: &Tables,
-    scratch: &mut Scratch,
-    weights: &Weights,
-    call: &FirstnCall,
-    items: &[Slot],
-    leaves: &[Slot],
-    rep: u32,
-    effort: &mut Effort,
-) -> Decision
-    requires call { IsFirstnCall tables.now call.now }
-    requires fits { scratch.old ≡ scratch_of tables.now }
-    requires few { length items.now ≤ SIZE_LIMIT }
-    requires rep { rep ≤ COUNT_LIMIT }
-    ensures value { IsDecision tables.now weights.now call.now items.now leaves.now (spec.decided tables.now weights.now call.now items.now leaves.now rep) result }
-    ensures fits { scratch.new ≡ scratch_of tables.now }
-{
-    let since = effort.spent();
-    let mut asked = false;
-    for round in 0..call.tries {
-        let mark = firstn_try(
-            tables, scratch, weights, call, items, leaves, rep, round, effort,
-        );
-        if mark.is_some() {
-            return Decision::Mark(mark);
-        }
-        if !asked && effort.is_due(tables, call.bucket, since) {
-            asked = true;
-            if !can_place(tables, weights, call, items, leaves) {
-                return Decision::Hopeless;
+impl<'a> Firstn<'a> {
+    /// Makes one attempt for a leaf below a bucket. Returns the leaf that it finds, if it finds
+    /// one.
+    #[tactic(auto, unfolding(crate::specs::Firstn::leaf_by))]
+    fn leaf_by(
+        &self,
+        scratch: &mut Scratch,
+        bucket: BucketNo,
+        r: u32,
+        effort: &mut Effort,
+    ) -> Option<ItemId>
+        requires bucket { bucket < length self.now.tables.now.buckets }
+        requires fits { scratch.old ≡ scratch_of self.now.tables.now }
+        requires low { r < 2 ^ 31 }
+        ensures value { let s = self.now in result ≡ spec.leaf_by s.tables.now s.weights.now s.call.now s.leaves.now bucket r }
+        ensures fits { scratch.new ≡ scratch_of self.now.tables.now }
+    {
+        let x = self.call.x;
+        let walk = Walk {
+            x,
+            wanted: 0,
+            from: bucket,
+        };
+        match reach_by(self.tables, scratch, walk, r, effort) {
+            Reached::Found(item, _) => {
+                let is_new = is_device_in(self.weights, x, item) && !has(self.leaves, item);
+                is_new.then_some(item)
             }
+            _ => None,
         }
     }
-    Decision::Mark(None)
-}
 
-/// Decides a rep: it has no mark where no room is left.
-fn decide_with_room(
-    tables: &Tables,
-    scratch: &mut Scratch,
-    weights: &Weights,
-    call: &FirstnCall,
-    items: &[Slot],
-    leaves: &[Slot],
-    rep: u32,
-    effort: &mut Effort,
-) -> Decision
-    requires call { IsFirstnCall tables.now call.now }
-    requires fits { scratch.old ≡ scratch_of tables.now }
-    requires few { length items.now ≤ call.now.room }
-    requires rep { rep ≤ COUNT_LIMIT }
-    ensures value { IsDecision tables.now weights.now call.now items.now leaves.now (spec.mark_beside tables.now weights.now call.now items.now leaves.now rep) result }
-    ensures room { length items.now + length (items_of (mark_in result ∷ [])) ≤ call.now.room }
-    ensures fits { scratch.new ≡ scratch_of tables.now }
-{
-    if (items.len() as u32) < call.room {
-        decide(tables, scratch, weights, call, items, leaves, rep, effort)
-    } else {
+    /// Returns the first attempt for a leaf below a bucket that attempt r found.
+    fn leaf_start(&self, r: u32) -> u32
+        requires { r < 2 ^ 16 }
+        ensures value { result ≡ spec.leaf_start self.now.call.now (length self.now.items.now) r }
+        ensures low { result < 2 ^ 17 }
+    {
+        let count = self.items.len() as u32;
+        let base = if self.call.stable == 1 { 0 } else { count };
+        let sub = if self.call.vary_r == 0 {
+            0
+        } else {
+            r >> (self.call.vary_r - 1)
+        };
+        base + sub
+    }
+
+    /// Finds the leaf of the first attempt that finds one. It gives up where none can.
+    #[tactic(auto, unfolding(crate::specs::Firstn::leaf_below))]
+    fn leaf_below(
+        &self,
+        scratch: &mut Scratch,
+        bucket: BucketNo,
+        start: u32,
+        effort: &mut Effort,
+    ) -> Option<ItemId>
+        requires bucket { bucket < length self.now.tables.now.buckets }
+        requires fits { scratch.old ≡ scratch_of self.now.tables.now }
+        requires low { start < 2 ^ 17 }
+        ensures value { let s = self.now in result ≡ spec.leaf_below s.tables.now s.weights.now s.call.now s.leaves.now bucket start }
+        ensures fits { scratch.new ≡ scratch_of self.now.tables.now }
+    {
+        a_pick_is_pickable();
+        let since = effort.spent();
+        let mut asked = false;
+        for g in 0..self.call.leaf_tries {
+            let leaf = self.leaf_by(scratch, bucket, start + g, effort);
+            if leaf.is_some() {
+                return leaf;
+            }
+            if !asked && effort.is_due(self.tables, self.call.bucket, since) {
+                asked = true;
+                if !can_have_leaf(self.tables, self.weights, self.call.x, self.leaves, bucket) {
+                    return None;
+                }
+            }
+        }
+        None
+    }
+
+    /// Finds the leaf of an item that attempt r found.
+    fn leaf_of(
+        &self,
+        scratch: &mut Scratch,
+        item: ItemId,
+        r: u32,
+        effort: &mut Effort,
+    ) -> Option<ItemId>
+        requires fits { scratch.old ≡ scratch_of self.now.tables.now }
+        requires low { r < 2 ^ 16 }
+        ensures value { let s = self.now in result ≡ spec.leaf_of s.tables.now s.weights.now s.call.now s.leaves.now (length s.items.now) item r (bucket_numbered s.tables.now item) }
+        ensures fits { scratch.new ≡ scratch_of self.now.tables.now }
+    {
+        match self.tables.bucket_of(item) {
+            None => is_device_in(self.weights, self.call.x, item).then_some(item),
+            Some(_) if self.call.leaf_tries == 0 => Some(item),
+            Some(bucket) => self.leaf_below(scratch, bucket, self.leaf_start(r), effort),
+        }
+    }
+
+    /// Makes one try of a rep. Returns `None` if it fails.
+    #[tactic(auto, unfolding(crate::specs::Firstn::firstn_try))]
+    fn firstn_try(
+        &self,
+        scratch: &mut Scratch,
+        rep: u32,
+        round: u32,
+        effort: &mut Effort,
+    ) -> Option<Mark>
+        requires fits { scratch.old ≡ scratch_of self.now.tables.now }
+        requires rep { rep ≤ COUNT_LIMIT }
+        requires round { round ≤ TRIES_LIMIT }
+        ensures value { let s = self.now in result ≡ spec.firstn_try s.tables.now s.weights.now s.call.now s.items.now s.leaves.now rep round }
+        ensures fits { scratch.new ≡ scratch_of self.now.tables.now }
+    {
+        let walk = Walk {
+            x: self.call.x,
+            wanted: self.call.wanted,
+            from: self.call.bucket,
+        };
+        let (item, r) = match reach_by(self.tables, scratch, walk, rep + round, effort) {
+            Reached::Found(item, r) => (item, r),
+            Reached::Empty => return None,
+            Reached::Wrong => return Some(Mark::Skipped),
+        };
+        if has(self.items, item) {
+            return None;
+        }
+        let leaf = self.leaf_of(scratch, item, r, effort)?;
+        Some(Mark::Placed(Spot { round, item, leaf }))
+    }
+
+    /// Returns whether a try of any rep can place an item.
+    fn can_place(&self) -> bool
+        ensures { let s = self.now in result ≡ (nat_le BUCKET_LIMIT s.call.now.bucket || firstn_can_place s.tables.now s.weights.now s.call.now s.items.now s.leaves.now) }
+    {
+        let walk = Walk {
+            x: self.call.x,
+            wanted: self.call.wanted,
+            from: self.call.bucket,
+        };
+        let leaf = self.call.leaf_tries > 0;
+        can_choose(
+            self.tables,
+            self.weights,
+            walk,
+            self.items,
+            leaf,
+            self.leaves,
+        )
+    }
+
+    /// Decides a rep: its mark is that of its first try that doesn't fail. It gives up where no try
+    /// can place an item.
+    #[tactic(auto, unfolding(crate::specs::Firstn::decided))]
+    fn decide(&self, scratch: &mut Scratch, rep: u32, effort: &mut Effort) -> Decision
+        requires fits { scratch.old ≡ scratch_of self.now.tables.now }
+        requires rep { rep ≤ COUNT_LIMIT }
+        ensures value { let s = self.now in IsDecision s.tables.now s.weights.now s.call.now s.items.now s.leaves.now (spec.decided s.tables.now s.weights.now s.call.now s.items.now s.leaves.now rep) result }
+        ensures fits { scratch.new ≡ scratch_of self.now.tables.now }
+    {
+        let since = effort.spent();
+        let mut asked = false;
+        for round in 0..self.call.tries {
+            let mark = self.firstn_try(scratch, rep, round, effort);
+            if mark.is_some() {
+                return Decision::Mark(mark);
+            }
+            if !asked && effort.is_due(self.tables, self.call.bucket, since) {
+                asked = true;
+                if !self.can_place() {
+                    return Decision::Hopeless;
+                }
+            }
+        }
         Decision::Mark(None)
+    }
+
+    /// Decides a rep: it has no mark where no room is left.
+    fn decide_with_room(&self, scratch: &mut Scratch, rep: u32, effort: &mut Effort) -> Decision
+        requires fits { scratch.old ≡ scratch_of self.now.tables.now }
+        requires rep { rep ≤ COUNT_LIMIT }
+        ensures value { let s = self.now in IsDecision s.tables.now s.weights.now s.call.now s.items.now s.leaves.now (spec.mark_beside s.tables.now s.weights.now s.call.now s.items.now s.leaves.now rep) result }
+        ensures room { length self.now.items.now + length (items_of (mark_in result ∷ [])) ≤ self.now.call.now.room }
+        ensures fits { scratch.new ≡ scratch_of self.now.tables.now }
+    {
+        if (self.items.len() as u32) < self.call.room {
+            self.decide(scratch, rep, effort)
+        } else {
+            Decision::Mark(None)
+        }
     }
 }
 
@@ -362,16 +321,14 @@ pub fn choose_firstn(
     leaves.clear();
     let mut effort = Effort::new();
     for rep in 0..call.numrep {
-        let decision = decide_with_room(
+        let firstn = Firstn {
             tables,
-            scratch,
             weights,
             call,
-            items.items(),
-            leaves.items(),
-            rep,
-            &mut effort,
-        );
+            items: items.items(),
+            leaves: leaves.items(),
+        };
+        let decision = firstn.decide_with_room(scratch, rep, &mut effort);
         match decision {
             Decision::Mark(mark) => add(items, leaves, mark),
             Decision::Hopeless => return,

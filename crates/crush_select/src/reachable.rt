@@ -10,6 +10,7 @@ ghost use Rattle.crush_map.specs.declared.limits.TheConstants.{BUCKET_LIMIT};
 
 use crate::firstn::has;
 use crate::row::Slot;
+use crate::walk::Walk;
 use crate::weights::{Weights, is_device_in};
 use crush_bucket::{BucketNo, Tables};
 use crush_map::limits::BUCKET_LIMIT;
@@ -22,32 +23,6 @@ fn is_marked(marks: &[bool], bucket: BucketNo) -> bool
     match marks.get(bucket.place()) {
         Some(mark) => *mark,
         None => false,
-    }
-}
-
-/// Returns whether a walk that picked an item can end there or below it at an item that can be
-/// placed, given the buckets that have a leaf and those from which a walk can end so.
-fn can_end_at(
-    tables: &Tables,
-    weights: &Weights,
-    x: u32,
-    wanted: u32,
-    chosen: &[Slot],
-    leafy: &[bool],
-    found: &[bool],
-    item: ItemId,
-) -> bool
-    ensures { result ≡ can_end_at tables.now wanted (can_be_placed tables.now weights.now x chosen.now (marked leafy.now)) (marked found.now) item (bucket_numbered tables.now item) }
-{
-    match tables.bucket_of(item) {
-        None => wanted == 0 && is_device_in(weights, x, item) && !has(chosen, item),
-        Some(bucket) => {
-            if tables.type_of(bucket) == wanted {
-                is_marked(leafy, bucket) && !has(chosen, item)
-            } else {
-                is_marked(found, bucket)
-            }
-        }
     }
 }
 
@@ -79,79 +54,76 @@ fn without_weights(kind: Kind, items: &[(ItemId, Weight)]) -> &[(ItemId, Weight)
     }
 }
 
-/// Returns whether `can_end_at` holds for one of `items` that has at least the weight `least`.
-fn can_end_among(
-    tables: &Tables,
-    weights: &Weights,
+/// What a walk is to end at: an item of the wanted type that isn't chosen already, and that is a
+/// device that is in or a bucket that has a leaf.
+#[derive(Clone, Copy)]
+struct Aim<'a> {
+    tables: &'a Tables,
+    weights: &'a Weights,
     x: u32,
     wanted: u32,
-    chosen: &[Slot],
-    leafy: &[bool],
-    found: &[bool],
-    items: &[(ItemId, Weight)],
-    least: u32,
-) -> bool
-    ensures { result ≡ list_any (λ e. nat_le least e.1.0 && can_end_at tables.now wanted (can_be_placed tables.now weights.now x chosen.now (marked leafy.now)) (marked found.now) e.0 (bucket_numbered tables.now e.0)) items.now }
-{
-    items.iter().any(|item| {
-        item.1.0 >= least && can_end_at(tables, weights, x, wanted, chosen, leafy, found, item.0)
-    })
+    chosen: &'a [Slot],
+    leafy: &'a [bool],
 }
 
-/// Returns whether `can_end_at` holds for some item that a bucket can pick.
-fn can_end_below(
-    tables: &Tables,
-    weights: &Weights,
-    x: u32,
-    wanted: u32,
-    chosen: &[Slot],
-    leafy: &[bool],
-    found: &[bool],
-    bucket: BucketNo,
-) -> bool
-    requires { bucket < length tables.now.buckets }
-    ensures { result ≡ list_any (λ e. can_end_at tables.now wanted (can_be_placed tables.now weights.now x chosen.now (marked leafy.now)) (marked found.now) e.0 (bucket_numbered tables.now e.0)) (pickable (bucket_at tables.now bucket)) }
-{
-    let kind = tables.kind(bucket);
-    let items = tables.items(bucket);
-    if picks_by_weight(kind, items) {
-        can_end_among(tables, weights, x, wanted, chosen, leafy, found, items, 1)
-    } else {
-        let items = without_weights(kind, items);
-        can_end_among(tables, weights, x, wanted, chosen, leafy, found, items, 0)
+impl<'a> Aim<'a> {
+    /// Returns whether a walk that picked an item can end there or below it, given the buckets from
+    /// which a walk can.
+    fn can_end_at(&self, found: &[bool], item: ItemId) -> bool
+        ensures { let s = self.now in result ≡ can_end_at s.tables.now s.wanted (can_be_placed s.tables.now s.weights.now s.x s.chosen.now (marked s.leafy.now)) (marked found.now) item (bucket_numbered s.tables.now item) }
+    {
+        match self.tables.bucket_of(item) {
+            None => {
+                self.wanted == 0
+                    && is_device_in(self.weights, self.x, item)
+                    && !has(self.chosen, item)
+            }
+            Some(bucket) => {
+                if self.tables.type_of(bucket) == self.wanted {
+                    is_marked(self.leafy, bucket) && !has(self.chosen, item)
+                } else {
+                    is_marked(found, bucket)
+                }
+            }
+        }
     }
-}
 
-/// Marks each bucket up to a bucket, by number, from which a walk can end at an item of the type
-/// `wanted` that can be placed, given the buckets that have a leaf.
-fn mark_reachable(
-    tables: &Tables,
-    weights: &Weights,
-    x: u32,
-    wanted: u32,
-    chosen: &[Slot],
-    leafy: &[bool],
-    last: BucketNo,
-) -> [bool; BUCKET_LIMIT]
-    requires last { last < length tables.now.buckets }
-    requires low { last < BUCKET_LIMIT }
-    ensures { IsMarked tables.now wanted (can_be_placed tables.now weights.now x chosen.now (marked leafy.now)) (last + 1) result }
-{
-    tables.items_are_below();
-    let mut found = [false; BUCKET_LIMIT];
-    for place in 0..last.place() + 1 {
-        found[place] = can_end_below(
-            tables,
-            weights,
-            x,
-            wanted,
-            chosen,
-            leafy,
-            &found,
-            BucketNo::new(place),
-        );
+    /// Returns whether `can_end_at` holds for one of `items` that has at least the weight `least`.
+    fn can_end_among(&self, found: &[bool], items: &[(ItemId, Weight)], least: u32) -> bool
+        ensures { let s = self.now in result ≡ list_any (λ e. nat_le least e.1.0 && can_end_at s.tables.now s.wanted (can_be_placed s.tables.now s.weights.now s.x s.chosen.now (marked s.leafy.now)) (marked found.now) e.0 (bucket_numbered s.tables.now e.0)) items.now }
+    {
+        items
+            .iter()
+            .any(|item| item.1.0 >= least && self.can_end_at(found, item.0))
     }
-    found
+
+    /// Returns whether `can_end_at` holds for some item that a bucket can pick.
+    fn can_end_below(&self, found: &[bool], bucket: BucketNo) -> bool
+        requires { bucket < length self.now.tables.now.buckets }
+        ensures { let s = self.now in result ≡ list_any (λ e. can_end_at s.tables.now s.wanted (can_be_placed s.tables.now s.weights.now s.x s.chosen.now (marked s.leafy.now)) (marked found.now) e.0 (bucket_numbered s.tables.now e.0)) (pickable (bucket_at s.tables.now bucket)) }
+    {
+        let kind = self.tables.kind(bucket);
+        let items = self.tables.items(bucket);
+        if picks_by_weight(kind, items) {
+            self.can_end_among(found, items, 1)
+        } else {
+            self.can_end_among(found, without_weights(kind, items), 0)
+        }
+    }
+
+    /// Marks each bucket up to a bucket, by number, from which a walk can end so.
+    fn mark_reachable(&self, last: BucketNo) -> [bool; BUCKET_LIMIT]
+        requires last { last < length self.now.tables.now.buckets }
+        requires low { last < BUCKET_LIMIT }
+        ensures { let s = self.now in IsMarked s.tables.now s.wanted (can_be_placed s.tables.now s.weights.now s.x s.chosen.now (marked s.leafy.now)) (last + 1) result }
+    {
+        self.tables.items_are_below();
+        let mut found = [false; BUCKET_LIMIT];
+        for place in 0..last.place() + 1 {
+            found[place] = self.can_end_below(&found, BucketNo::new(place));
+        }
+        found
+    }
 }
 
 /// Marks the buckets up to a bucket, by number, that can be placed: all if no leaf is required,
@@ -171,34 +143,69 @@ fn mark_leafy(
     tables.items_are_below();
     let all = [true; BUCKET_LIMIT];
     if leaf {
-        mark_reachable(tables, weights, x, 0, leaves, &all, last)
+        let aim = Aim {
+            tables,
+            weights,
+            x,
+            wanted: 0,
+            chosen: leaves,
+            leafy: &all,
+        };
+        aim.mark_reachable(last)
     } else {
         all
     }
 }
 
-/// Returns whether a walk from a bucket can end at an item of the type `wanted` that can be placed
-/// beside the items that are chosen already: a device that is in, or a bucket below which, where a
-/// leaf is required, there is a device that is in and isn't a leaf already. Of a bucket whose
-/// number is `BUCKET_LIMIT` or more the answer is yes; no map has one.
+/// Returns whether a walk can end at an item that can be placed beside the items that are chosen
+/// already: a device that is in, or a bucket below which, where a leaf is required, there is a
+/// device that is in and isn't a leaf already. Of a bucket whose number is `BUCKET_LIMIT` or more
+/// the answer is yes; no map has one.
 pub(crate) fn can_choose(
     tables: &Tables,
     weights: &Weights,
-    x: u32,
-    wanted: u32,
+    walk: Walk,
     chosen: &[Slot],
     leaf: bool,
     leaves: &[Slot],
-    from: BucketNo,
 ) -> bool
-    requires { from < length tables.now.buckets }
-    ensures { result ≡ (nat_le BUCKET_LIMIT from || spec.can_choose tables.now weights.now x wanted chosen.now leaf leaves.now from) }
+    requires { walk.from < length tables.now.buckets }
+    ensures { result ≡ (nat_le BUCKET_LIMIT walk.from || spec.can_choose tables.now weights.now walk.x walk.wanted chosen.now leaf leaves.now walk.from) }
 {
-    if from.place() >= BUCKET_LIMIT {
+    if walk.from.place() >= BUCKET_LIMIT {
         return true;
     }
     tables.items_are_below();
-    let leafy = mark_leafy(tables, weights, x, leaf, leaves, from);
-    let found = mark_reachable(tables, weights, x, wanted, chosen, &leafy, from);
-    found[from.place()]
+    let leafy = mark_leafy(tables, weights, walk.x, leaf, leaves, walk.from);
+    let aim = Aim {
+        tables,
+        weights,
+        x: walk.x,
+        wanted: walk.wanted,
+        chosen,
+        leafy: &leafy,
+    };
+    let found = aim.mark_reachable(walk.from);
+    found[walk.from.place()]
+}
+
+/// Returns whether there is a device below a bucket that is in and isn't a leaf already, with the
+/// same exception.
+#[tactic(auto, unfolding(crate::specs::Private::Reachable::can_choose))]
+pub(crate) fn can_have_leaf(
+    tables: &Tables,
+    weights: &Weights,
+    x: u32,
+    leaves: &[Slot],
+    bucket: BucketNo,
+) -> bool
+    requires { bucket < length tables.now.buckets }
+    ensures { result ≡ (nat_le BUCKET_LIMIT bucket || spec.can_have_leaf tables.now weights.now x leaves.now bucket) }
+{
+    let walk = Walk {
+        x,
+        wanted: 0,
+        from: bucket,
+    };
+    can_choose(tables, weights, walk, leaves, false, &[])
 }

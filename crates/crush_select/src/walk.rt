@@ -10,6 +10,15 @@ use crate::effort::Effort;
 use crush_bucket::{BucketNo, Scratch, Tables};
 use crush_map::{ItemId, Kind};
 
+/// A walk for an input, from a bucket to an item of a type.
+#[derive(Clone, Copy)]
+pub(crate) struct Walk {
+    pub x: u32,
+    /// The number of the type.
+    pub wanted: u32,
+    pub from: BucketNo,
+}
+
 /// The attempts of a walk: at each bucket, `start` and what the bucket adds for the round.
 #[derive(Clone, Copy)]
 pub(crate) struct Attempts {
@@ -49,43 +58,41 @@ fn attempt_at(tables: &Tables, attempts: Attempts, bucket: BucketNo) -> u32
     attempts.start + (attempts.numrep + extra) * attempts.round
 }
 
-/// Picks from a bucket and on from each bucket that is picked, until an item has the type `wanted`.
+/// Picks from a bucket and on from each bucket that is picked, until an item has the wanted type.
 /// It is inlined: a mapping has few picks for each walk.
 #[inline(always)]
 pub(crate) fn reach(
     tables: &Tables,
     scratch: &mut Scratch,
-    x: u32,
+    walk: Walk,
     attempts: Attempts,
-    wanted: u32,
-    from: BucketNo,
     effort: &mut Effort,
 ) -> Reached
-    requires from { from < length tables.now.buckets }
+    requires from { walk.from < length tables.now.buckets }
     requires fits { scratch.old ≡ scratch_of tables.now }
     requires attempts { AreAttempts attempts }
-    ensures value { result ≡ reach tables.now x (λ b. attempts.start + step tables.now attempts.numrep attempts.round b) wanted from }
+    ensures value { result ≡ reach tables.now walk.x (λ b. attempts.start + step tables.now attempts.numrep attempts.round b) walk.wanted walk.from }
     ensures up_to { IsUpTo (attempts.start + (COUNT_LIMIT + 1) * attempts.round) result }
     ensures fits { scratch.new ≡ scratch_of tables.now }
 {
-    let mut bucket = from;
+    let mut bucket = walk.from;
     'down: loop {
         if tables.is_empty(bucket) {
             return Reached::Empty;
         }
         effort.add_pick();
         let r = attempt_at(tables, attempts, bucket);
-        let item = tables.pick(bucket, scratch, x, r);
+        let item = tables.pick(bucket, scratch, walk.x, r);
         match tables.bucket_of(item) {
             None => {
-                return if wanted == 0 {
+                return if walk.wanted == 0 {
                     Reached::Found(item, r)
                 } else {
                     Reached::Wrong
                 };
             }
             Some(below) => {
-                if tables.type_of(below) == wanted {
+                if tables.type_of(below) == walk.wanted {
                     return Reached::Found(item, r);
                 }
                 bucket = below;
@@ -99,16 +106,14 @@ pub(crate) fn reach(
 pub(crate) fn reach_by(
     tables: &Tables,
     scratch: &mut Scratch,
-    x: u32,
+    walk: Walk,
     r: u32,
-    wanted: u32,
-    from: BucketNo,
     effort: &mut Effort,
 ) -> Reached
-    requires from { from < length tables.now.buckets }
+    requires from { walk.from < length tables.now.buckets }
     requires fits { scratch.old ≡ scratch_of tables.now }
     requires low { r < 2 ^ 31 }
-    ensures value { result ≡ reach tables.now x (λ b. r) wanted from }
+    ensures value { result ≡ reach tables.now walk.x (λ b. r) walk.wanted walk.from }
     ensures up_to { IsUpTo r result }
     ensures fits { scratch.new ≡ scratch_of tables.now }
 {
@@ -117,5 +122,5 @@ pub(crate) fn reach_by(
         numrep: 1,
         round: 0,
     };
-    reach(tables, scratch, x, attempts, wanted, from, effort)
+    reach(tables, scratch, walk, attempts, effort)
 }

@@ -1,4 +1,4 @@
--- How serving clients over a file ends, from how it ends over the store below.
+-- How serving clients over a file ends, from how it ends over the ready store.
 use Rattle.std.proofs.lemmas.Bool.{false≢true}
 use Rattle.std.proofs.Common.{◌≡◌, ◌≢◌, ◌∙◌, ◌||◌, ℕ, ◌<◌, ◌≤◌, List, Bool, true, false, Option, Result, Ok, Err, ap, refl, subst, sym}
 use Rattle.std.specs.Prelude.{⊤}
@@ -9,14 +9,12 @@ use Rattle.sqlite_wal.specs.Reads.{AreClean}
 use Rattle.sqlite_wal.specs.Recovery.{Image}
 use Rattle.sqlite_store.specs.declared.store.FileStore.{FileStore}
 use Rattle.sqlite.specs.Files.{file_state, over_files}
-use Rattle.sqlite.specs.Held.{Held, state}
+use Rattle.sqlite.specs.Held.{Held}
 use Rattle.sqlite.specs.State.{HasCleanDisk}
-use Rattle.sqlite.specs.Store.{Ghosts}
 use Rattle.table_schema.specs.Ready.{IsReady}
 use Rattle.tenant_core.specs.States.{Outcomes, Same, States}
 use Rattle.tenant_files.proofs.ClosedFacts.{given_clean}
 use Rattle.tenant_files.proofs.StoredFacts.{meets_same, same_states}
-use Rattle.tenant_files.proofs.TableFacts.{of_store}
 use Rattle.tenant_files.proofs.UsedFacts.{held, uses_file, uses_files}
 use Rattle.tenant_files.specs.Closed.{GivesBack}
 use Rattle.tenant_files.specs.Opened.{IsFound}
@@ -65,7 +63,7 @@ serving_map A B P Q (Err CannotListen) most old new as_before follows s = as_bef
 serving_map A B P Q (Err WriteFault) most old new as_before follows s = as_before s
 
 -- where no client was accepted
-pub ends_as_before : (A : Type 0) (P : List Call → List Reply → Type 0) (fault : ServerFault) (most : ℕ) (old new : Option Clients) → (fault ≡ Store → ⊥) → A → EndsServing A P (Err fault) most old new
+ends_as_before : (A : Type 0) (P : List Call → List Reply → Type 0) (fault : ServerFault) (most : ℕ) (old new : Option Clients) → (fault ≡ Store → ⊥) → A → EndsServing A P (Err fault) most old new
 ends_as_before A P Store most old new other as_before = absurd (other refl)
 ends_as_before A P NoMemory most old new other as_before = as_before
 ends_as_before A P CannotListen most old new other as_before = as_before
@@ -84,27 +82,6 @@ serves_same : (is : Bool) (a b c d : States) (left : Outcomes) (cs : List Call) 
 serves_same is a b c d left cs rs before after s =
     record { meets = meets_same is a b c d cs rs before after s.meets; session = λ was. session_same a b left cs rs before (s.session was) }
 
--- ---- over tables
-
-module _ {S F : Type 0} (g : Ghosts S) (first last : ((Held S × Bool) × F) × Bool) (start : Held S × Bool) (conn : Held S) (end : Result (Unit {0}) ServerFault) (AsBefore : Type 0) (most : ℕ) (before from to : Option Clients) where
-  abbrev OnStore : List Call → List Reply → Type 0
-  OnStore calls replies = IsHonest g last.0.0 → ServesSession false (last.0.0.1 || last.1) (HasState g first.0.0) (HasState g last.0.0) (MayLeave g last.0.0) calls replies
-
-  abbrev OnRows : List Call → List Reply → Type 0
-  OnRows calls replies =
-      HasCleanDisk (state g conn) → ServesSession false (has_failed end) (StandsFor (state g start.0).now.trees) (StandsFor (state g conn).now.trees) (MayStandFor g conn) calls replies
-
-  -- the clients were the same before the listener was made ready
-  pub ends_on_tables : first.0.0 ≡ start → last.0.0.0 ≡ conn → (HasCleanDisk (state g conn) → IsHonest g last.0.0) → LatchesAs end (last.0.0.1 || last.1) → (AsBefore → to ≡ from) → from ≡ before
-      → EndsServing ((last ≡ first) × AsBefore) OnStore end most from to → EndsServing ((conn ≡ start.0) × (to ≡ before)) OnRows end most before to
-  ends_on_tables begun ended honest latch none same said =
-      subst (λ (o : Option Clients). EndsServing ((conn ≡ start.0) × (to ≡ o)) OnRows end most o to) same
-      (serving_map ((last ≡ first) × AsBefore) ((conn ≡ start.0) × (to ≡ from)) OnStore OnRows end most from to (λ u. (sym ended ∙ ap (λ x. x.0.0.0) u.0 ∙ ap (λ x. x.0) begun, none u.1))
-      (λ is cs rs serves clean.
-      of_store g (λ a b l. ServesSession false (has_failed end) a b l cs rs) first.0.0 start last.0.0 conn begun ended
-      (subst (λ (b : Bool). ServesSession false b (HasState g first.0.0) (HasState g last.0.0) (MayLeave g last.0.0) cs rs) (latched_is end (last.0.0.1 || last.1) is latch) (serves (honest clean))))
-      said)
-
 -- the store below a watched one didn't fail for good, or no client was accepted
 still_works : {H F : Type 0} (first last : ((H × Bool) × F) × Bool) (end : Result (Unit {0}) ServerFault) (AsBefore : Type 0) (P : List Call → List Reply → Type 0) (most : ℕ) (from to : Option Clients)
     → first.0.0.1 ≡ false → LatchesAs end (last.0.0.1 || last.1) → EndsServing ((last ≡ first) × AsBefore) P end most from to → end ≢ Err Store → last.0.0.1 ≡ false
@@ -114,26 +91,9 @@ still_works first last (Err NoMemory) AsBefore P most from to worked latch said 
 still_works first last (Err CannotListen) AsBefore P most from to worked latch said works = ap (λ x. x.0.0.1) said.0 ∙ worked
 still_works first last (Err WriteFault) AsBefore P most from to worked latch said works = ap (λ x. x.0.0.1) said.0 ∙ worked
 
--- where the store didn't fail for good the tables are ready
-pub ready_then : {S F : Type 0} (g : Ghosts S) (first last : ((Held S × Bool) × F) × Bool) (conn : Held S) (end : Result (Unit {0}) ServerFault) (AsBefore : Type 0) (P : List Call → List Reply → Type 0) (most : ℕ) (from to : Option Clients)
-    → first.0.0.1 ≡ false → last.0.0.0 ≡ conn → (HasCleanDisk (state g conn) → IsHonest g last.0.0) → LatchesAs end (last.0.0.1 || last.1) → EndsServing ((last ≡ first) × AsBefore) P end most from to
-    → HasCleanDisk (state g conn) → end ≢ Err Store → IsReady (state g conn)
-ready_then {S = S} g first last conn end AsBefore P most from to worked ended honest latch said clean works =
-    subst (λ (x : Held S). IsReady (state g x)) ended ((honest clean).ready (still_works first last end AsBefore P most from to worked latch said works))
-
--- where no client was accepted the tables are ready as at first
-pub ready_still : {S : Type 0} (g : Ghosts S) (store : Held S × Bool) (conn : Held S) → conn ≡ store.0 → (HasCleanDisk (state g conn) → IsHonest g store) → store.1 ≡ false
-    → HasCleanDisk (state g conn) → IsReady (state g conn)
-ready_still {S = S} g store conn same honest works clean = subst (λ (x : Held S). IsReady (state g x)) (sym same) ((honest clean).ready works)
-
 -- ---- over files
 
 module _ {D : Type 0} (g : disk.Ghosts D) (first : Held (FileStore D g)) (end : Result (Unit {0}) ServerFault) (files : Files D) (most : ℕ) (from to : Option Clients) where
-  abbrev OnTables : Held (FileStore D g) → List Call → List Reply → Type 0
-  OnTables last calls replies =
-      HasCleanDisk (file_state last)
-      → ServesSession false (has_failed end) (StandsFor (file_state first).now.trees) (StandsFor (file_state last).now.trees) (MayStandFor over_files last) calls replies
-
   abbrev OnFiles : Held (FileStore D g) → List Call → List Reply → Type 0
   OnFiles last calls replies =
       AreClean g files.log files.db
@@ -142,26 +102,44 @@ module _ {D : Type 0} (g : disk.Ghosts D) (first : Held (FileStore D g)) (end : 
   abbrev Said : Held (FileStore D g) → Type 0
   Said last = EndsServing ((last ≡ first) × (to ≡ from)) (OnFiles last) end most from to
 
-  -- at the closing the rows are what the file holds
-  on_files : (last : Held (FileStore D g)) (copied : Result (Unit {0}) FileFault) → GivesBack last copied files → (HasCleanDisk (file_state last) → end ≢ Err Store → IsReady (file_state last))
-      → EndsServing ((last ≡ first) × (to ≡ from)) (OnTables last) end most from to → Said last
-  on_files last copied given ready said =
-      serving_map ((last ≡ first) × (to ≡ from)) ((last ≡ first) × (to ≡ from)) (OnTables last) (OnFiles last) end most from to (λ u. u)
-      (λ is cs rs serves clean.
-      let now = given_clean last copied files given clean in
-      let old = StandsFor (file_state first).now.trees in
-      serves_same (has_failed end) old old (StandsFor (file_state last).now.trees) (StatesIn (file_state last).committed) (MayStandFor over_files last) cs rs (same_states old)
-      (λ works. held last (ready now (not_store end works))) (serves now))
-      said
+-- by a ready store that worked at first
+module _ {D F : Type 0} (g : disk.Ghosts D) (store : Held (FileStore D g) × Bool) (watch : F) (first last : ((Held (FileStore D g) × Bool) × F) × Bool) (end : Result (Unit {0}) ServerFault)
+    (copied : Result (Unit {0}) FileFault) (files : Files D) (AsBefore : Type 0) (most : ℕ) (before from to : Option Clients) where
+  abbrev OnReady : ((Held (FileStore D g) × Bool) × F) × Bool → Bool → List Call → List Reply → Type 0
+  OnReady begun is_latched calls replies =
+      IsHonest over_files last.0.0 → ServesSession false is_latched (HasState over_files begun.0.0) (HasState over_files last.0.0) (MayLeave over_files last.0.0) calls replies
 
--- by a store that worked at first
-pub ends_on_files : {D : Type 0} (g : disk.Ghosts D) (store : Held (FileStore D g) × Bool) (last : Held (FileStore D g)) (end : Result (Unit {0}) ServerFault) (copied : Result (Unit {0}) FileFault)
-    (files : Files D) (most : ℕ) (from to : Option Clients) → SeenMayStay g → store.1 ≡ false → GivesBack last copied files → (HasCleanDisk (file_state last) → IsHonest over_files store)
-    → (HasCleanDisk (file_state last) → end ≢ Err Store → IsReady (file_state last))
-    → EndsServing ((last ≡ store.0) × (to ≡ from)) (OnTables g store.0 end files most from to last) end most from to → ServesOnFiles g store.0 end copied files most from to
-ends_on_files g store last end copied files most from to stays works given honest ready said =
-    uses_files stays store last copied files (end ≢ Err Store) (Said g store.0 end files most from to) works given honest ready
-    (on_files g store.0 end files most from to last copied given ready said)
+  -- at the closing the rows are what the file holds. The clients were the same before the listener
+  -- was made ready
+  pub ends_on_files : SeenMayStay g → first ≡ ((store, watch), false) → store.1 ≡ false → GivesBack last.0.0.0 copied files → (HasCleanDisk (file_state last.0.0.0) → IsHonest over_files last.0.0)
+      → (IsHonest over_files last.0.0 → IsHonest over_files first.0.0) → LatchesAs end (last.0.0.1 || last.1) → (AsBefore → to ≡ from) → from ≡ before
+      → EndsServing ((last ≡ first) × AsBefore) (OnReady first (last.0.0.1 || last.1)) end most from to → ServesOnFiles g store.0 end copied files most before to
+  ends_on_files stays made works given honest earlier latch none same said =
+      let now : AreClean g files.log files.db → HasCleanDisk (file_state last.0.0.0) = given_clean last.0.0.0 copied files given in
+      let worked : first.0.0.1 ≡ false = ap (λ x. x.0.0.1) made ∙ works in
+      let ready : HasCleanDisk (file_state last.0.0.0) → end ≢ Err Store → IsReady (file_state last.0.0.0) =
+      λ clean done. (honest clean).ready (still_works first last end AsBefore (OnReady first (last.0.0.1 || last.1)) most from to worked latch said done) in
+      let old = StandsFor (file_state store.0).now.trees in
+      let new = StandsFor (file_state last.0.0.0).now.trees in
+      uses_files stays store last.0.0.0 copied files (end ≢ Err Store) (Said g store.0 end files most before to) works given
+      (λ clean. subst (λ (x : ((Held (FileStore D g) × Bool) × F) × Bool). IsHonest over_files x.0.0) made (earlier (honest clean))) ready
+      (subst (λ (o : Option Clients). EndsServing ((last.0.0.0 ≡ store.0) × (to ≡ before)) (OnFiles g store.0 end files most before to last.0.0.0) end most o to) same
+      (serving_map ((last ≡ first) × AsBefore) ((last.0.0.0 ≡ store.0) × (to ≡ before)) (OnReady first (last.0.0.1 || last.1)) (OnFiles g store.0 end files most before to last.0.0.0) end most from to
+      (λ u. (ap (λ x. x.0.0.0) (u.0 ∙ made), none u.1 ∙ same))
+      (λ is calls replies serves clean.
+      serves_same (has_failed end) old old new (StatesIn (file_state last.0.0.0).committed) (MayStandFor over_files last.0.0.0) calls replies (same_states old)
+      (λ works. held last.0.0.0 (ready (now clean) (not_store end works)))
+      (subst (λ (x : ((Held (FileStore D g) × Bool) × F) × Bool). OnReady x (has_failed end) calls replies) made
+      (subst (λ (b : Bool). OnReady first b calls replies) (latched_is end (last.0.0.1 || last.1) is latch) serves) (honest (now clean))))
+      said))
+
+-- no client was accepted
+pub ends_unserved : {D : Type 0} (g : disk.Ghosts D) (store : Held (FileStore D g) × Bool) (fault : ServerFault) (copied : Result (Unit {0}) FileFault) (files : Files D) (most : ℕ)
+    (before to : Option Clients) → SeenMayStay g → store.1 ≡ false → GivesBack store.0 copied files → (HasCleanDisk (file_state store.0) → IsHonest over_files store) → (fault ≡ Store → ⊥) → to ≡ before
+    → ServesOnFiles g store.0 (Err fault) copied files most before to
+ends_unserved g store fault copied files most before to stays works given honest other same =
+    uses_files stays store store.0 copied files (Err fault ≢ Err Store) (Said g store.0 (Err fault) files most before to) works given honest (λ clean done. (honest clean).ready works)
+    (ends_as_before _ (OnFiles g store.0 (Err fault) files most before to store.0) fault most before to other (refl, same))
 
 -- with the opening
 module _ {D : Type 0} (g : disk.Ghosts D) (image : Image) (first : Held (FileStore D g)) (end : Result (Unit {0}) ServerFault) (copied : Result (Unit {0}) FileFault) (files : Files D) (most : ℕ)

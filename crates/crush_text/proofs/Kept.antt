@@ -14,8 +14,7 @@ use Rattle.crush_grammar.specs.declared.declaration.Setting.TheVariants as setti
 use Rattle.crush_grammar.specs.declared.declaration.DeclaredRule.{DeclaredRule}
 use Rattle.crush_grammar.specs.declared.declaration.DeclaredStep.{DeclaredStep}
 use Rattle.crush_grammar.specs.declared.declaration.DeclaredStep.TheVariants as steps
-use Rattle.crush_grammar.specs.declared.declaration.DeclaredBucket.{DeclaredBucket}
-use Rattle.crush_text.specs.Judging.{Declared, at_line, declared_step_fault, declared_rule_fault, declared_bucket_fault, kept_step_fault, step_of, rule_of, bucket_of}
+use Rattle.crush_text.specs.Judging.{Declared, at_line, declared_step_fault, declared_rule_fault, kept_step_fault, step_of, rule_of}
 use Rattle.crush_text.proofs.Checks.{first_none, second_none, both_none, passes, fails, last_of}
 
 at_most : (n m : ℕ) → nat_lt m n ≡ false → n ≤ m
@@ -42,11 +41,6 @@ is_light known b h = light_by known b (passes (bucket_checks known b) 8 (content
 pub no_fault : (line : ℕ) (o : Option FaultCode) → at_line line o ≡ None → o ≡ None
 no_fault line None h = refl
 no_fault line (Some code) h = cc
-
--- a bucket without a fault is one of the draft without one
-pub bucket_passes : (s : Declared) (b : DeclaredBucket) → declared_bucket_fault s b ≡ None → bucket_fault s.known (bucket_of s.draft b) ≡ None
-unfolding declared_bucket_fault
-bucket_passes s b h = no_fault b.head.line (bucket_fault s.known (bucket_of s.draft b)) (second_none _ _ h)
 
 -- ---- rules
 

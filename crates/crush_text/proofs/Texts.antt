@@ -1,5 +1,5 @@
 -- What a text is found to be: a map, or refused for its first fault.
-use Rattle.std.proofs.Common.{◌≡◌, ◌∙◌, ◌⊎◌, inl, inr, ℕ, List, Option, Some, None, MatchOption, refl, sym, ap}
+use Rattle.std.proofs.Common.{◌≡◌, ◌∙◌, ◌⊎◌, inl, inr, List, Option, Some, None, MatchOption, sym, ap}
 use Rattle.std.proofs.Common.{Result, Ok}
 use Rattle.std.specs.Result.{result_err}
 use Rattle.std.proofs.Common.{IfOk}
@@ -9,6 +9,7 @@ use Rattle.crush_map.specs.Map.{Map, IsMap, IsMapOf}
 use Rattle.crush_words.specs.Words.{Word}
 use Rattle.crush_grammar.specs.Syntax.{Declares}
 use Rattle.crush_grammar.specs.Fronts.{Breaks, IsWhole, last_line}
+use Rattle.crush_grammar.specs.declared.code.TextCode.TheVariants.{Map as MapCode}
 use Rattle.crush_grammar.specs.declared.code.TextFault.{TextFault}
 use Rattle.crush_grammar.specs.declared.declaration.Declaration.{Declaration}
 use Rattle.crush_text.specs.Judging.{Declared, declared, declared_fault, at_line, last_fault}
@@ -39,22 +40,14 @@ says_map ws s m clean end same valid =
       map = valid;
     }
 
-pub end_faulty : (ws : List Word) (s : Declared) (f : TextFault) → IsClean ws s → last_fault (last_line 1 ws) s ≡ Some f → HasMapFault ws f
-end_faulty ws s f clean end =
-    let some : last_fault (last_line 1 ws) (declared clean.declarations) ≡ Some f = rw clean.all at end in
+pub end_faulty : (ws : List Word) (s : Declared) (code : FaultCode) → IsClean ws s → at_end s ≡ Some code → HasMapFault ws (record { line = last_line 1 ws; code = MapCode code })
+end_faulty ws s code clean end =
+    let some : at_end (declared clean.declarations) ≡ Some code = rw clean.all at end in
     record {
       declarations = clean.declarations;
       form = clean.form;
-      first = ap (λ o. or_else o (last_fault (last_line 1 ws) (declared clean.declarations))) clean.each ∙ some;
+      first = ap (λ o. or_else o (last_fault (last_line 1 ws) (declared clean.declarations))) clean.each ∙ ap (at_line (last_line 1 ws)) some;
     }
-
-no_code : (line : ℕ) (o : Option FaultCode) → at_line line o ≡ None → o ≡ None
-no_code line None h = refl
-no_code line (Some code) h = cc
-
--- without a fault at the end there is no code of one
-pub ends_well : (line : ℕ) (s : Declared) → last_fault line s ≡ None → at_end s ≡ None
-ends_well line s h = no_code line (at_end s) h
 
 -- ---- what reading finds
 

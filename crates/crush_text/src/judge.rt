@@ -1,6 +1,6 @@
 //! Checking what a text declares, in order.
 
-ghost use Rattle.std.specs.Prelude.{◌≡◌, ◌++◌, ◌∷◌, [], ◌<◌, ℕ, List, IfOk, OnOk, length, map, filter, filter_map, find, option_map, is_none, slice_index_or, None};
+ghost use Rattle.std.specs.Prelude.{◌≡◌, ◌<◌, ℕ, List, IfOk, length, map, filter, filter_map, find, option_map, is_none, slice_index_or, None};
 ghost use Rattle.std.specs.Result.{result_err};
 ghost use Rattle.crush_map.specs.Faults as faults;
 ghost use Rattle.crush_map.specs.declared.draft.MapDraft.{MapDraft};
@@ -314,43 +314,10 @@ impl Judge {
         })
     }
 
-    /// Finds the fault of a declared bucket, given the bucket that the draft has for it.
-    #[tactic(auto, unfolding(crate::specs::Judging::declared_bucket_fault))]
-    fn bucket_fault(
-        &self,
-        alloc: Global,
-        declared: &DeclaredBucket<'_>,
-        bucket: &Bucket,
-    ) -> Result<Option<TextFault>, AllocError>
-        requires { bucket.now ≡ spec.bucket_of self.now.draft declared.now }
-        ensures { IfOk result (λ fault. fault ≡ spec.declared_bucket_fault self.now declared.now) }
-    {
-        if let Some(line) = wrong_place(alloc, declared.items.as_slice())? {
-            return Ok(Some(TextFault {
-                line,
-                code: TextCode::X5,
-            }));
-        }
-        match self.known.bucket_fault(alloc, bucket)? {
-            Some(code) => Ok(Some(at_line(declared.head.line, code))),
-            None => Ok(None),
-        }
-    }
-
-    /// Adds a bucket that has no fault.
-    ///
-    /// `Err(AllocError)`: an allocation failed; the value must not be used any more.
-    fn add_bucket(&mut self, alloc: Global, bucket: Bucket) -> Result<(), AllocError>
-        requires { faults.bucket_fault self.old.known bucket ≡ None }
-        ensures { OnOk result (self.new ≡ record self.old { draft = record self.old.draft { buckets = self.old.draft.buckets ++ bucket ∷ [] }; known = faults.with_bucket self.old.known bucket }) }
-    {
-        self.known.add_bucket(alloc, &bucket)?;
-        self.buckets.add(alloc, bucket)
-    }
-
     /// Declares a bucket that has no fault. Returns the fault if it has one.
     ///
     /// `Err(AllocError)`: an allocation failed; the value must not be used any more.
+    #[tactic(auto, using(crate::proofs::Kept::is_few, crate::proofs::Kept::is_light), unfolding(crate::specs::Judging::declared_bucket_fault))]
     fn declare_bucket(
         &mut self,
         alloc: Global,
@@ -359,15 +326,18 @@ impl Judge {
         ensures fault { IfOk result (λ fault. fault ≡ spec.declaration_fault self.old (kinds.Bucket declared.now)) }
         ensures declared { IfOk result (λ fault. fault ≡ None → self.new ≡ spec.declare self.old (kinds.Bucket declared.now)) }
     {
-        let bucket = self.bucket_of(alloc, declared)?;
-        let fault = self.bucket_fault(alloc, declared, &bucket)?;
-        match fault {
-            Some(found) => Ok(Some(found)),
-            None => {
-                self.add_bucket(alloc, bucket)?;
-                Ok(None)
-            }
+        if let Some(line) = wrong_place(alloc, declared.items.as_slice())? {
+            return Ok(Some(TextFault {
+                line,
+                code: TextCode::X5,
+            }));
         }
+        let bucket = self.bucket_of(alloc, declared)?;
+        if let Some(code) = self.known.declare_bucket(alloc, &bucket)? {
+            return Ok(Some(at_line(declared.head.line, code)));
+        }
+        self.buckets.add(alloc, bucket)?;
+        Ok(None)
     }
 
     /// Makes the step of a declaration. `None`: the step sets local tries, and is dropped.
@@ -443,33 +413,10 @@ impl Judge {
         })
     }
 
-    /// Returns the fault of a declared rule, given the rule that the draft has for it.
-    #[tactic(auto, unfolding(crate::specs::Judging::declared_rule_fault))]
-    fn rule_fault(&self, declared: &DeclaredRule<'_>, rule: &Rule) -> Option<FaultCode>
-        requires { rule.now ≡ spec.rule_of self.now.draft declared.now }
-        ensures { result ≡ spec.declared_rule_fault self.now declared.now }
-    {
-        match self.known.rule_head_fault(rule) {
-            Some(fault) => Some(fault),
-            None => self.steps_fault(declared.steps.as_slice()),
-        }
-    }
-
-    /// Adds a rule that has no fault.
-    ///
-    /// `Err(AllocError)`: an allocation failed; the value must not be used any more.
-    fn add_rule(&mut self, alloc: Global, rule: Rule) -> Result<(), AllocError>
-        requires { faults.rule_fault self.old.known rule ≡ None }
-        ensures { OnOk result (self.new ≡ record self.old { draft = record self.old.draft { rules = self.old.draft.rules ++ rule ∷ [] }; known = faults.with_rule self.old.known rule }) }
-    {
-        self.known.add_rule(alloc, &rule)?;
-        self.rules.push(rule)?;
-        Ok(())
-    }
-
     /// Declares a rule that has no fault. Returns the fault if it has one.
     ///
     /// `Err(AllocError)`: an allocation failed; the value must not be used any more.
+    #[tactic(auto, unfolding(crate::specs::Judging::declared_rule_fault))]
     fn declare_rule(
         &mut self,
         alloc: Global,
@@ -479,13 +426,12 @@ impl Judge {
         ensures declared { IfOk result (λ fault. fault ≡ None → self.new ≡ spec.declare self.old (kinds.Rule declared.now)) }
     {
         let rule = self.rule_of(alloc, declared)?;
-        match self.rule_fault(declared, &rule) {
-            Some(code) => Ok(Some(at_line(declared.line, code))),
-            None => {
-                self.add_rule(alloc, rule)?;
-                Ok(None)
-            }
+        let fault_of_steps = self.steps_fault(declared.steps.as_slice());
+        if let Some(code) = self.known.declare_rule(alloc, &rule, fault_of_steps)? {
+            return Ok(Some(at_line(declared.line, code)));
         }
+        self.rules.push(rule)?;
+        Ok(None)
     }
 
     /// Declares what a declaration says, if it has no fault. Returns the fault if it has one.
@@ -529,19 +475,13 @@ impl Judge {
         Ok(None)
     }
 
-    /// Returns the fault at the end of a text, when all is declared.
-    pub(crate) fn end_fault(&self) -> Option<FaultCode>
-        ensures { result ≡ faults.end_fault self.now.known self.now.draft.tunables self.now.draft.local_tries self.now.draft.local_fallback_tries }
-    {
-        self.known
-            .end_fault(self.tunables, self.local_tries, self.local_fallback_tries)
-    }
-
-    /// Returns the draft of the map. Allocates nothing.
-    pub(crate) fn into_draft(self) -> MapDraft
-        ensures { result ≡ self.draft }
+    /// Returns what is known, and the draft of the map. Allocates nothing.
+    pub(crate) fn into_parts(self) -> (Known, MapDraft)
+        ensures known { result.0 ≡ self.known }
+        ensures draft { result.1 ≡ self.draft }
     {
         let Judge {
+            known,
             types,
             devices,
             buckets,
@@ -551,7 +491,7 @@ impl Judge {
             tunables,
             ..
         } = self;
-        MapDraft {
+        let draft = MapDraft {
             types: Listed::new(types),
             devices: Listed::new(devices.into_vec()),
             buckets: Listed::new(buckets.into_vec()),
@@ -559,7 +499,8 @@ impl Judge {
             local_tries,
             local_fallback_tries,
             tunables,
-        }
+        };
+        (known, draft)
     }
 }
 

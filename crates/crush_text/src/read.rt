@@ -1,11 +1,9 @@
 //! Reading a text as a map.
 
-ghost use Rattle.std.specs.Prelude.{◌≡◌, IfOk, IfErr, MatchOption};
+ghost use Rattle.std.specs.Prelude.{IfOk, IfErr, MatchOption};
 ghost use Rattle.crush_words.specs.Words.{words};
-ghost use Rattle.crush_grammar.specs.Fronts as fronts;
 ghost use Rattle.crush_grammar.specs.Fronts.{Breaks};
 ghost use Rattle.crush_grammar.specs.Syntax.{Declares};
-ghost use Rattle.crush_text.specs.Judging.{last_fault};
 ghost use Rattle.crush_text.specs.MapText.{IsTextOf, HasFirstFault, IsShort, IsRefusedFor};
 ghost use Rattle.crush_text.specs.Private.Clean.{IsClean};
 
@@ -15,28 +13,20 @@ use crush_grammar::{Declarations, TextCode, TextFault, last_line, read_declarati
 use crush_map::CrushMap;
 use std::alloc::{AllocError, Global};
 
-/// Returns the fault at the end of a text, when all is declared.
-fn fault_at_end(text: &[u8], judge: &Judge) -> Option<TextFault>
-    ensures { result ≡ last_fault (fronts.last_line 1 (words text.now)) judge.now }
-{
-    match judge.end_fault() {
-        Some(code) => {
-            let line = last_line(text);
-            Some(at_line(line, code))
-        }
-        None => None,
-    }
-}
-
 /// Returns the map of a text whose declarations have no fault, or else the fault at its end.
 fn map_of(text: &[u8], judge: Judge) -> Result<CrushMap, TextFault>
     requires { IsClean (words text.now) judge }
     ensures map { IfOk result (λ m. IsTextOf text.now m) }
     ensures refused { IfErr result (λ f. HasFirstFault text.now f) }
 {
-    match fault_at_end(text, &judge) {
-        Some(fault) => Err(fault),
-        None => Ok(CrushMap::of(judge.into_draft())),
+    let (known, draft) = judge.into_parts();
+    match known.end_fault(
+        draft.tunables,
+        draft.local_tries,
+        draft.local_fallback_tries,
+    ) {
+        Some(code) => Err(at_line(last_line(text), code)),
+        None => Ok(CrushMap::of(draft)),
     }
 }
 

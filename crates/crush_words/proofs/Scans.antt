@@ -33,14 +33,3 @@ by_name line b bs false e h more = let bad = rw e at h in absurd (omega arith)
 pub run_word : (line : ℕ) (bs : List ℕ) → 0 < run_len bs → IsFirst line (run_len bs) bs
 run_word line [] h = absurd (omega arith)
 run_word line (b ∷ bs) h = by_name line b bs (is_name_byte b) refl h (run_word line bs)
-
-alone_by : (line b : ℕ) (bs : List ℕ) (k l m n : Bool) → is_name_byte b ≡ k → (b == 10) ≡ l → (b == 35) ≡ m → is_blank b ≡ n → run_len (b ∷ bs) ≡ 0 → starts_word (b ∷ bs) ≡ true → IsFirst line 1 (b ∷ bs)
-alone_by line b bs true l m n e f g h none word = let bad = rw e at none in absurd (omega arith)
-alone_by line b bs false false false false e f g h none word = rw (f, e, g, h) refl
-alone_by line b bs false true m n e f g h none word = let bad = rw f at word in cc
-alone_by line b bs false false true n e f g h none word = let bad = rw (f, g) at word in cc
-alone_by line b bs false false false true e f g h none word = let bad = rw (f, g, h) at word in cc
-
-pub alone_word : (line : ℕ) (bs : List ℕ) → run_len bs ≡ 0 → starts_word bs ≡ true → IsFirst line 1 bs
-alone_word line [] none word = cc
-alone_word line (b ∷ bs) none word = alone_by line b bs _ _ _ _ refl refl refl refl none word

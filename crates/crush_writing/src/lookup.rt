@@ -1,12 +1,13 @@
-//! A map with tables by which names are looked up.
+//! The parts of a map, with tables by which names are looked up.
 
 ghost use Rattle.std.specs.Prelude.{◌≡◌, ℕ, ℤ, IfOk, []};
 ghost use Rattle.std.specs.BTreeMap.{get};
 ghost use Rattle.std.specs.Option.{option_map_or};
 ghost use Rattle.std.specs.Ordering.{int_cmp, nat_cmp};
+ghost use Rattle.crush_map.specs.Map.{IsMap};
 ghost use Rattle.crush_writing.specs.Canonical as spec;
 
-use crush_map::{Bucket, CrushMap, Device, ItemId, TypeName};
+use crush_map::{Bucket, CrushMap, Device, ItemId, Rule, Tunables, TypeName};
 use std::alloc::{AllocError, Global};
 use std::collections::BTreeMap;
 use std::marker::Model;
@@ -55,12 +56,16 @@ fn bucket_names<'a>(
     Ok(names)
 }
 
-/// A map with the names of its items by id. Contracts see the map.
+/// The parts of a map, and the names of its items by id. Contracts see the map.
 #[derive(Drop)]
 pub(crate) struct Names<'a> {
-    map: &'a CrushMap,
-    devices: BTreeMap<u32, &'a str>,
-    buckets: BTreeMap<i32, &'a str>,
+    pub(crate) types: &'a [TypeName],
+    pub(crate) devices: &'a [Device],
+    pub(crate) buckets: &'a [Bucket],
+    pub(crate) rules: &'a [Rule],
+    pub(crate) tunables: Tunables,
+    by_device: BTreeMap<u32, &'a str>,
+    by_bucket: BTreeMap<i32, &'a str>,
 }
 
 impl<'a> Model for Names<'a> {
@@ -73,35 +78,34 @@ impl<'a> Model for Names<'a> {
 
     ghost Value = { Map };
 
-    ghost view = { λ a. a.map.now };
+    ghost view = { λ a. record { types = a.types.now; devices = a.devices.now; buckets = a.buckets.now; rules = a.rules.now; tunables = a.tunables } };
 
-    ghost invariant = { λ a. ((id : ℕ) → option_map_or (λ name. name.now) (get nat_cmp a.devices id) [] ≡ spec.device_name a.map.now.devices id) × ((id : ℤ) → option_map_or (λ name. name.now) (get int_cmp a.buckets id) [] ≡ spec.bucket_name a.map.now.buckets id) };
+    ghost invariant = { λ a. ((id : ℕ) → option_map_or (λ name. name.now) (get nat_cmp a.by_device id) [] ≡ spec.device_name a.devices.now id) × ((id : ℤ) → option_map_or (λ name. name.now) (get int_cmp a.by_bucket id) [] ≡ spec.bucket_name a.buckets.now id) };
 }
 
 impl<'a> Names<'a> {
-    /// Makes the tables of the names of a map.
+    /// Reads the parts of a map, and makes the tables of its names.
     pub(crate) fn new(alloc: Global, map: &'a CrushMap) -> Result<Self, AllocError>
-        ensures { IfOk result (λ names. names ≡ map.now) }
+        ensures same { IfOk result (λ names. names ≡ map.now) }
+        ensures valid { IsMap map.now }
     {
+        let (devices, buckets) = (map.devices(), map.buckets());
         Ok(Names {
-            map,
-            devices: device_names(alloc, map.devices())?,
-            buckets: bucket_names(alloc, map.buckets())?,
+            types: map.types(),
+            devices,
+            buckets,
+            rules: map.rules(),
+            tunables: map.tunables(),
+            by_device: device_names(alloc, devices)?,
+            by_bucket: bucket_names(alloc, buckets)?,
         })
-    }
-
-    /// Returns the map.
-    pub(crate) fn map(&self) -> &'a CrushMap
-        ensures { result.now ≡ self.now }
-    {
-        self.map
     }
 
     /// Returns the name of the type with a number, or the empty text.
     pub(crate) fn of_type(&self, number: u32) -> &'a str
         ensures { result.now ≡ spec.type_name self.now.types number }
     {
-        type_name(self.map.types(), number)
+        type_name(self.types, number)
     }
 
     /// Returns the name of the device or bucket with an id, or the empty text.
@@ -109,9 +113,9 @@ impl<'a> Names<'a> {
         ensures { result.now ≡ spec.item_name self.now id.0 }
     {
         let found = if id.0 < 0 {
-            self.buckets.get(&id.0)
+            self.by_bucket.get(&id.0)
         } else {
-            self.devices.get(&id.0.unsigned_abs())
+            self.by_device.get(&id.0.unsigned_abs())
         };
         match found {
             Some(name) => *name,

@@ -3,6 +3,7 @@
 ghost use Rattle.std.specs.Prelude.{◌≡◌, ◌++◌, ◌∷◌, [], codes, IfOk, OnOk};
 ghost use Rattle.std.specs.Fmt.{decimal, signed_decimal};
 ghost use Rattle.std.specs.List.{flat_map};
+ghost use Rattle.crush_map.specs.Map.{IsMap};
 ghost use Rattle.crush_writing.specs.Canonical as spec;
 
 use crate::lookup::Names;
@@ -181,7 +182,7 @@ fn write_bucket(
 fn write_buckets(alloc: Global, out: &mut Vec<u8>, names: &Names<'_>) -> Result<(), AllocError>
     ensures { OnOk result (out.new.items ≡ out.old.items ++ flat_map (spec.bucket_lines names.now) names.now.buckets) }
 {
-    let buckets = names.map().buckets();
+    let buckets = names.buckets;
     for bucket in buckets {
         write_bucket(alloc, out, names, bucket)?;
     }
@@ -305,7 +306,7 @@ fn write_rule(
 fn write_rules(alloc: Global, out: &mut Vec<u8>, names: &Names<'_>) -> Result<(), AllocError>
     ensures { OnOk result (out.new.items ≡ out.old.items ++ flat_map (spec.rule_lines names.now) names.now.rules) }
 {
-    let rules = names.map().rules();
+    let rules = names.rules;
     for rule in rules {
         write_rule(alloc, out, names, rule)?;
     }
@@ -317,16 +318,17 @@ fn write_rules(alloc: Global, out: &mut Vec<u8>, names: &Names<'_>) -> Result<()
 /// `Err(AllocError)`: an allocation failed; nothing is changed.
 #[tactic(auto, unfolding(crate::specs::Canonical::canonical))]
 pub fn write_map(alloc: Global, map: &CrushMap) -> Result<Vec<u8>, AllocError>
-    ensures { IfOk result (λ text. text.items ≡ spec.canonical map.now) }
+    ensures text { IfOk result (λ text. text.items ≡ spec.canonical map.now) }
+    ensures valid { IsMap map.now }
 {
     let names = Names::new(alloc, map)?;
     let mut out = Vec::new(alloc);
     out.extend_from_slice(b"# begin crush map\n")?;
-    write_tunables(alloc, &mut out, map.tunables())?;
+    write_tunables(alloc, &mut out, names.tunables)?;
     out.extend_from_slice(b"\n# devices\n")?;
-    write_devices(alloc, &mut out, map.devices())?;
+    write_devices(alloc, &mut out, names.devices)?;
     out.extend_from_slice(b"\n# types\n")?;
-    write_types(alloc, &mut out, map.types())?;
+    write_types(alloc, &mut out, names.types)?;
     out.extend_from_slice(b"\n# buckets\n")?;
     write_buckets(alloc, &mut out, &names)?;
     out.extend_from_slice(b"\n# rules\n")?;

@@ -292,7 +292,7 @@ fn content_with(
     ensures { IfOk result (λ content. content ≡ record { text = canonical map.now; states = states.now; pool = pool.now.value; pairs = exceptions.now }) }
 {
     let text = text_of(rt, alloc, map)?;
-    Ok(Content::new(text, states.share()?, pool.clone()?, exceptions.share()?))
+    Content::new(&text, states, pool, exceptions)
 }
 
 /// Asks a new cache twice for the group 0 of a placer, which has the content `content`, and returns

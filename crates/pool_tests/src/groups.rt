@@ -99,6 +99,7 @@ fn objects_have_the_groups_of_their_hashes(rt: HostRuntime) -> Result<(), Fail> 
         let pool = pool(rt.alloc(), short)?;
         assert_same_in(&rt, name, &name_hash(name.as_bytes()), hash);
         assert_same_in(&rt, name, &pool.group_of(name.as_bytes()), group);
+        assert_same_in(&rt, name, &pool.group_of_hash(*hash), group);
     }
     Ok(())
 }

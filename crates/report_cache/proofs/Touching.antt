@@ -36,31 +36,6 @@ or_assoc false b c = refl
 
 -- ---- lists of devices
 
-pub has_push : (xs : List ℕ) (n d : ℕ) → has_number (xs ++ n ∷ []) d ≡ (has_number xs d || (n == d))
-has_push [] n d = sym (or_none (n == d))
-has_push (x ∷ xs) n d = ap (λ b. (x == d) || b) (has_push xs n d) ∙ or_assoc (x == d) (has_number xs d) (n == d)
-
--- a number that is there adds nothing
-pub has_again : (xs : List ℕ) (n d : ℕ) → has_number xs n ≡ true → has_number xs d ≡ (has_number xs d || (n == d))
-has_again xs n d there = at (n == d) refl
-  where
-    at : (b : Bool) → (n == d) ≡ b → has_number xs d ≡ (has_number xs d || b)
-    at false is = or_none (has_number xs d)
-    at true is = let yes : has_number xs d ≡ true = subst (λ m. has_number xs m ≡ true) (same_of n d is) there in rw yes refl
-
-pub once_none : AreOnce []
-once_none d = refl
-
-pub once_push : (xs : List ℕ) (n : ℕ) → has_number xs n ≡ false → AreOnce xs → AreOnce (xs ++ n ∷ [])
-once_push xs n none once d = filter-append (λ m. m == d) xs (n ∷ []) ∙ (ap (λ ys. ys ++ filter (λ m. m == d) (n ∷ [])) (once d) ∙ (at (n == d) refl ∙ ap (λ b. if b then d ∷ [] else []) (sym (has_push xs n d))))
-  where
-    at : (b : Bool) → (n == d) ≡ b → (if has_number xs d then d ∷ [] else []) ++ (if b then n ∷ [] else []) ≡ (if (has_number xs d || b) then d ∷ [] else [])
-    at false is = append-nil (if has_number xs d then d ∷ [] else []) ∙ ap (λ b. if b then d ∷ [] else []) (or_none (has_number xs d))
-    at true is =
-        let same : n ≡ d = same_of n d is in
-        let no : has_number xs d ≡ false = subst (λ m. has_number xs m ≡ false) same none in
-        rw (no, same) refl
-
 rising_rest : (x : ℕ) (xs : List ℕ) → IsStrictlyIncreasing (x ∷ xs) → IsStrictlyIncreasing xs
 rising_rest x xs rising k h = let e : suc k + 1 ≡ suc (k + 1) = omega arith in rw e at (rising (suc k) (omega arith))
 

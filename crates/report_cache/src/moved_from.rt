@@ -50,10 +50,9 @@ pub fn moves_from(alloc: Global, old: &UpLists, to: &Placer) -> Result<Listed<Mo
         → Some rows ≡ moves p.map to.now.map p.states p.pool p.pairs) }
     ensures gained { IfOk result (λ rows. spec.gained_in rows ≤ SIZE_LIMIT * GROUP_LIMIT) }
 {
-    let _second = to.map();
     let mut run = UpRun::build(alloc, &*to, WORDS_KEPT)?;
     let mut new = Vec::with_capacity(alloc, SIZE_LIMIT)?;
-    let count = to.pool().parts().pg_num;
+    let count = to.pool_parts().pg_num;
     let rows = moved_rows(alloc, old, &mut run, &mut new, count)?;
     Ok(rows)
 }

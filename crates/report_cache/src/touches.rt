@@ -5,17 +5,15 @@ ghost use Rattle.std.specs.List.Sorted.{IsNonDecreasingBy, IsPartitionPoint};
 ghost use Rattle.crush_bucket.specs.Tables.{scratch_of, tables_of};
 ghost use Rattle.crush_map.specs.Faults.{has_number};
 ghost use Rattle.crush_pool.specs.Exceptions.{targets_of};
-ghost use Rattle.crush_report.specs.OnMaps.{touched_on, touches_on};
+ghost use Rattle.crush_report.specs.OnMaps.{touches_on};
 ghost use Rattle.report_cache.specs.Private.Touching.{AreOnce, touches_of};
-ghost use Rattle.crush_report.specs.Reports.{groups};
-ghost use Rattle.report_cache.specs.Touches.{groups_in};
+ghost use Rattle.report_cache.specs.Touches.{AreTouchesOn};
 
 use crush_bucket::Scratch;
 use crush_choose::Out;
 use crush_choose::laws::traces_ascend;
 use crush_map::Listed;
-use crush_pool::{Pair, Placer, Pool};
-use crush_report::look_ahead;
+use crush_pool::{Pair, Placer, PoolParts};
 use std::alloc::{AllocError, Global};
 use std::marker::Model;
 
@@ -108,8 +106,7 @@ fn find_devices(
     ensures fits { scratch.new ≡ scratch_of (tables_of placer.now.map) }
 {
     traces_ascend();
-    look_ahead(placer, scratch, group);
-    placer.run(scratch, out, group);
+    placer.run_next(scratch, out, group);
     devices.clear();
     devices.extend_from_slice(out.trace())?;
     let exceptions = placer.exceptions();
@@ -134,8 +131,7 @@ fn add_pairs(pairs: &mut Vec<Touch>, devices: &[u32], group: u32) -> Result<(), 
 
 /// Returns how many pairs there is room for at first: one more for each group than it has slots,
 /// since an item that is rejected counts too.
-fn usual_count(pool: &Pool) -> usize {
-    let parts = pool.parts();
+fn usual_count(parts: &PoolParts) -> usize {
     let usual = (parts.size as usize + 1).saturating_mul(parts.pg_num as usize);
     usual.min(TOUCH_LIMIT)
 }
@@ -143,13 +139,14 @@ fn usual_count(pool: &Pool) -> usize {
 /// Finds the pairs of a pool, group by group. `None` where they are more than `TOUCH_LIMIT`.
 /// `Err(AllocError)`: an allocation failed.
 fn pairs_by_group(alloc: Global, placer: &Placer) -> Result<Option<Vec<Touch>>, AllocError>
-    ensures { IfOk result (λ found. IfSome found (λ pairs. (d : ℕ) → groups_in pairs.items d ≡ touched_on placer.now d (groups placer.now.pool))) }
+    ensures { IfOk result (λ found. IfSome found (λ pairs. AreTouchesOn placer.now pairs.items)) }
 {
     let mut scratch = Scratch::for_many(alloc, placer.tables())?;
     let mut out = Out::build(alloc)?;
     let mut devices = Vec::new(alloc);
-    let mut pairs = Vec::with_capacity(alloc, usual_count(placer.pool()))?;
-    for group in 0..placer.pool().parts().pg_num {
+    let parts = placer.pool_parts();
+    let mut pairs = Vec::with_capacity(alloc, usual_count(parts))?;
+    for group in 0..parts.pg_num {
         find_devices(placer, &mut scratch, &mut out, &mut devices, group)?;
         add_pairs(&mut pairs, devices.as_slice(), group)?;
         if pairs.len() > TOUCH_LIMIT {
@@ -186,7 +183,6 @@ impl Touches {
     pub fn build(alloc: Global, placer: &Placer) -> Result<Option<Self>, AllocError>
         ensures { IfOk result (λ built. IfSome built (AreTouchesOn placer.now)) }
     {
-        let _map = placer.map();
         let Some(mut pairs) = pairs_by_group(alloc, placer)? else {
             return Ok(None);
         };

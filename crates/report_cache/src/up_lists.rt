@@ -5,7 +5,7 @@ ghost use Rattle.std.specs.Prelude.{◌≡◌, ◌≤◌, [], IfOk, length, map,
 ghost use Rattle.crush_report.specs.OnMaps.{up_on};
 ghost use Rattle.report_cache.specs.Private.Parts.{AreEnds, parts_of, start_at};
 
-use crush_pool::{Placer, Pool};
+use crush_pool::{Placer, PoolParts};
 use crush_report::UpRun;
 use crush_select::Slot;
 use crush_select::limits::SIZE_LIMIT;
@@ -41,8 +41,7 @@ impl Model for UpLists {
 }
 
 /// Returns how many slots there is room for at first: those of all groups of a pool, or the limit.
-fn most_slots(pool: &Pool) -> usize {
-    let parts = pool.parts();
+fn most_slots(parts: &PoolParts) -> usize {
     (parts.pg_num as usize * parts.size as usize).min(SLOT_LIMIT)
 }
 
@@ -98,12 +97,11 @@ impl UpLists {
     pub fn build(alloc: Global, placer: &Placer) -> Result<Option<Self>, AllocError>
         ensures { IfOk result (λ built. IfSome built (AreUpListsOn placer.now)) }
     {
-        let _map = placer.map();
-        let pool = placer.pool();
-        let count = pool.parts().pg_num;
+        let parts = placer.pool_parts();
+        let count = parts.pg_num;
         let mut run = UpRun::build(alloc, placer, WORDS_KEPT)?;
         let mut up = Vec::with_capacity(alloc, SIZE_LIMIT)?;
-        let mut slots = Vec::with_capacity(alloc, most_slots(pool))?;
+        let mut slots = Vec::with_capacity(alloc, most_slots(parts))?;
         let mut ends = Vec::with_capacity(alloc, count as usize)?;
         let fits = put_lists(&mut run, &mut up, &mut slots, &mut ends, count)?;
         if fits {

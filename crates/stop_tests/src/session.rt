@@ -11,7 +11,7 @@ use std::num::NonZeroUsize;
 use std::process::Abort;
 use tenant_cache::{Bytes, CachedStore};
 use tenant_core::{Routes, TenantStore};
-use tenant_files::close_unless_failed;
+use tenant_files::close_store;
 use tenant_messages::{Call, Reply};
 use tenant_service::{Service, SessionEnd};
 use tenant_store::Store;
@@ -60,34 +60,21 @@ fn serve_ready<T: TenantStore + Drop>(
     (end, ready.into_below())
 }
 
-/// Serves the calls as one session over the store, and gives its connection back.
-fn serve_tables<S: Alter + Drop>(
-    rt: &impl Abort,
-    alloc: Global,
-    store: Store<S>,
-    calls: &[Call],
-) -> (SessionEnd, Connection<S>)
-    requires live { store.1 ≡ false }
-{
-    let (end, store) = serve_ready(rt, alloc, store, calls);
-    (end, store.close())
-}
-
 /// Opens the store in the tables of a connection, serves the calls as one session over it, and
-/// gives the end of the session and the connection back. `Err`: the opening is refused, and what is
+/// gives the end of the session and the store back. `Err`: the opening is refused, and what is
 /// below the connection is given back.
 fn served_in<S: Alter + Drop>(
     rt: &impl Abort,
     alloc: Global,
     conn: Connection<S>,
     calls: &[Call],
-) -> Result<(SessionEnd, Connection<S>), S>
+) -> Result<(SessionEnd, Store<S>), S>
     requires autocommit { conn.in_transaction ≡ false }
     requires open { HasCleanDisk (state S.Store conn) → IsTrue (state S.Store conn).is_open }
     requires settled { HasCleanDisk (state S.Store conn) → (state S.Store conn).now ≡ (state S.Store conn).committed }
 {
     match Store::open(alloc, conn) {
-        Ok(store) => Ok(serve_tables(rt, alloc, store, calls)),
+        Ok(store) => Ok(serve_ready(rt, alloc, store, calls)),
         Err((_, below)) => Err(below),
     }
 }
@@ -110,7 +97,8 @@ pub(crate) fn session<D: Disk + Drop>(
         Err((_, rest)) => return (None, rest.into_files()),
     };
     match served_in(rt, alloc, conn, calls) {
-        Ok((end, conn)) => (Some(end), close_unless_failed(conn, !closes).files),
+        Ok((end, store)) if closes => (Some(end), close_store(store).files),
+        Ok((end, store)) => (Some(end), store.close().into_store().close()),
         Err(below) => (None, below.close()),
     }
 }

@@ -63,15 +63,3 @@ module _ {X : Type 0} (R : X → X → Type 0) where
     where
       near_tail : RisesTo n (y ∷ xs)
       near_tail i d e low in_it = near (suc i) d e (omega (arith, in_it, long)) (omega (arith, in_it))
-
-  -- one more pair of neighbours
-  pub rises_more : (n m : ℕ) (xs : List X) (a b : X) → RisesTo n xs → n ≡ suc m → n < length xs → a ≡ get_or xs m a → b ≡ get_or xs n b → R a b → RisesTo (suc n) xs
-  rises_more n m xs a b near is inside at next less i d e low in_it = go (cases_order i m)
-    where
-      go : (i ≡ m) ⊎ ((i < m) ⊎ (m < i)) → R (get_or xs i d) (get_or xs (suc i) e)
-      go (inl here) =
-          let first : get_or xs i d ≡ a = get_or_default xs i d a (omega (arith, in_it)) ∙ ap (λ k. get_or xs k a) here ∙ sym at in
-          let second : get_or xs (suc i) e ≡ b = get_or_default xs (suc i) e b in_it ∙ ap (λ k. get_or xs k b) (ap suc here ∙ sym is) ∙ sym next in
-          subst₂ R (sym first) (sym second) less
-      go (inr (inl before)) = near i d e (omega (arith, before, is)) in_it
-      go (inr (inr after)) = absurd (omega (arith, after, low, is))

@@ -2,15 +2,7 @@
 use Rattle.std.proofs.Common.{◌≡◌, ◌≢◌, ◌⊎◌, inl, inr, ◌↔◌, ◌∙◌, ℕ, List, Bool, true, false, Option, refl, ap, sym, subst, bytes_eq}
 use Rattle.std.proofs.lemmas.Slice.Eq.{bytes_eq-Decides}
 use Rattle.tenant_state.specs.State.{TenantState}
-use Rattle.tenant_core.specs.States.{Damaged, Found, HasState, LeavesAsItWas, LeavesAsItWasOr, Outcomes, Same, Shows, States}
-
--- another name has what it had
-pub others_stay : (old mid new : States) (name : List ℕ) → ((t : List ℕ) (x : Option TenantState) → t ≢ name → (old t x ↔ mid t x)) → Same mid new
-    → (t : List ℕ) (x : Option TenantState) → t ≢ name → (old t x ↔ new t x)
-others_stay old mid new name others same t x apart =
-    let both = others t x apart in
-    let kept = same t x in
-    (λ h. kept.0 (both.0 h), λ h. both.1 (kept.1 h))
+use Rattle.tenant_core.specs.States.{Damaged, Found, HasState, LeavesAsItWas, LeavesAsItWasOr, Outcomes, Shows, States}
 
 -- where the load fails for good, an opening finds the change that was made, and else each name as
 -- it was

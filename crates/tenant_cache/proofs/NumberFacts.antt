@@ -1,5 +1,5 @@
 -- Numbers that are kept beside what tenants have, and placements by them.
-use Rattle.std.proofs.Common.{◌≡◌, ◌≢◌, ◌↔◌, ◌∙◌, ◌⊎◌, ◌==◌, inl, inr, ℕ, List, [], ◌∷◌, find, Bool, true, false, nat_lt, if◌then◌else◌, ok_or, option_map, Contains, Option, Some, None, IfSome, Ok, refl, sym, ap, subst, eqb-true}
+use Rattle.std.proofs.Common.{◌≡◌, ◌≢◌, ◌↔◌, ◌∙◌, ◌⊎◌, ◌==◌, inl, inr, ℕ, List, [], ◌∷◌, find, Bool, true, false, nat_lt, if◌then◌else◌, ok_or, option_map, Contains, Option, Some, None, Ok, refl, sym, ap, subst, eqb-true}
 use Rattle.std.specs.declared.alloc.Global.{Global}
 use Rattle.std.specs.declared.rc.Rc.{Rc}
 use Rattle.lru.proofs.Splits.{Contains-nil}
@@ -20,7 +20,6 @@ use Rattle.tenant_core.specs.Cached.{Asks, IsCachedFor}
 use Rattle.tenant_core.specs.States.{HasInventory, Same, States}
 use Rattle.tenant_core.specs.declared.cached.Asked.{Asked}
 use Rattle.tenant_core.specs.declared.cached.Asked.TheVariants as asked
-use Rattle.tenant_core.specs.declared.cached.Cached.{Cached}
 use Rattle.tenant_core.specs.declared.cached.Cached.TheVariants.{Placed, Touched}
 use Rattle.tenant_core.specs.declared.queries.Query.{Query}
 use Rattle.tenant_core.specs.declared.queries.Query.TheVariants.{Exceptions, Group, Impact, Moves, Object, Pick, Test, Usage, Version}
@@ -59,9 +58,6 @@ ruled : (m : Map) (i : Inventory) (q : TenantPool) (p : PoolOnMap) (o : Option R
 ruled m i q p None h = cc
 ruled m i q p (Some r) h = let same : Ok p ≡ Ok (record { map = m; states = i.devices; pool = q.parts; pairs = q.pairs }) = sym h in cc
 
-pub on_newest_is : (i : Inventory) (q : TenantPool) (m : Map) (p : PoolOnMap) → version (newest i) i ≡ Some m → on_newest i q ≡ Ok p → p ≡ record { map = m; states = i.devices; pool = q.parts; pairs = q.pairs }
-on_newest_is i q m p there h = ruled m i q p (rule_numbered m q.parts.rule) (sym (ap (if_there i q) there) ∙ h)
-
 pool_of : (i : Inventory) (q : TenantPool) (p : PoolOnMap) (o : Option Map) → if_there i q o ≡ Ok p → p.pool ≡ q.parts
 pool_of i q p None h = cc
 pool_of i q p (Some m) h = ap (λ (r : PoolOnMap). r.pool) (ruled m i q p (rule_numbered m q.parts.rule) h)
@@ -81,13 +77,6 @@ pub is_touched : (query : Query) (i : Inventory) (q : TenantPool) (m : Map) (p :
     → impact.id_of p.map.devices number ≡ Some d → Some touched ≡ reports.impact p.map p.states p.pool p.pairs d → Asks query i q (asked.Device number) → IsCachedFor query i (Touched q.parts.id touched)
 is_touched query i q m p number d touched there on id of asks =
     (q, number, asks, refl, ap (impact.on_map number) (ap (if_there i q) there ∙ on) ∙ (ap (impact.on_device p) id ∙ ap (λ o. ok_or o NoRule) (sym of)))
-
--- what was found is what the query asks, also of an equal inventory
-pub found_for : (result : Option Cached) (i j : Inventory) (p : TenantPool) (a b : Asked) → i ≡ j → a ≡ b → IfSome result (λ r. (query : Query) → Asks query i p a → IsCachedFor query i r)
-    → IfSome result (λ r. (query : Query) → Asks query j p b → IsCachedFor query j r)
-found_for result i j p a b same is h =
-    subst (λ k. IfSome result (λ r. (query : Query) → Asks query k p b → IsCachedFor query k r)) same
-    (subst (λ c. IfSome result (λ r. (query : Query) → Asks query i p c → IsCachedFor query i r)) is h)
 
 -- ---- numbers of the cache
 

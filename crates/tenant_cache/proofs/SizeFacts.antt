@@ -1,6 +1,6 @@
 -- The sum of the sizes of a cache's values, before and after a call.
 use native.Mathlib.Omega.{arith}
-use Rattle.std.proofs.Common.{◌≡◌, ◌≤◌, ◌<◌, ℕ, zero, suc, ◌+◌, ◌-◌, List, [], ◌∷◌, Bool, length, take, Option, Some, None, option_map, is_some, min, ◌^◌, true≢false, refl, sym, ap, ◌∙◌, ◌⊎◌, inl, inr, subst}
+use Rattle.std.proofs.Common.{◌≡◌, ◌≤◌, ◌<◌, ℕ, zero, suc, ◌+◌, ◌-◌, List, [], ◌∷◌, Bool, length, take, Option, Some, None, option_map, min, ◌^◌, refl, sym, ap, ◌∙◌, ◌⊎◌, inl, inr, subst}
 use Rattle.std.specs.Option.{option_map_or, unwrap_or}
 use Rattle.std.specs.List.{sum_by, slice_get}
 use Rattle.std.specs.Map.{lookup, lookup_entry, remove_entry, values_of}
@@ -8,7 +8,6 @@ use Rattle.std.proofs.lemmas.List.{length-take-le}
 use Rattle.std.proofs.lemmas.List.Sums.{sum_by-cons}
 use Rattle.std.proofs.lemmas.Map.Entries.{sum_by-remove_entry}
 use Rattle.std.proofs.Math.Nat.{min-eq_left}
-use Rattle.std.proofs.lemmas.Option.{slice_get-get_or}
 use Rattle.lru.proofs.Pairs.{lookup-lookup_entry}
 use Rattle.lru.specs.LruCache.{LruCache, IsValid, lru_cache, last_entry, promoted, put_entries, displaced}
 
@@ -101,11 +100,6 @@ module _ {K V : Type 0} (f : V → ℕ) where
           let out : size_of (displaced eq c k v) ≡ f e.1 = ap (λ o. size_of (option_map_or (λ old. Some (k, old)) o (slice_get c.entries (c.cap - 1)))) (sym found) in
           let read : unwrap_or (option_map f (lookup (eq k) c.entries)) 0 ≡ f e.1 = ap (λ o. unwrap_or (option_map f o) 0) (sym found) in
           omega (arith, total-cons (e.0, v) (remove_entry (eq k) c.entries), total-removed (eq k) c.entries, out, read)
-
-  -- the sum is 0 where there is no last entry
-  pub total-none : (es : List (K × V)) → last_entry es ≡ None → total es ≡ 0
-  total-none [] none = refl
-  total-none (e ∷ es) none = absurd (true≢false (ap is_some (sym (slice_get-get_or (e ∷ es) (length (e ∷ es) - 1) e (omega arith)) ∙ none)))
 
   -- the last of the first entries goes, where they are too large
   pub fewer : (old es : List (K × V)) (bound : ℕ) → es ≡ take (length es) old → ((n : ℕ) → length es < n → n ≤ length old → bound < total (take n old)) → bound < total es

@@ -2,6 +2,7 @@
 
 ghost use Rattle.std.specs.Prelude.{◌≡◌, true, IfOk, IfSome};
 ghost use Rattle.crush_content.specs.Contents.{content_of};
+ghost use Rattle.crush_map.specs.Map.{IsMap};
 ghost use Rattle.crush_pool.specs.Placers.{PoolOnMap};
 
 use crate::bound::Bound;
@@ -69,6 +70,7 @@ impl<G: OfGroups> Model for Last<G> {
 impl<G: OfGroups> Last<G> {
     ghost use Rattle.std.specs.Prelude.{◌≡◌, true, IfOk};
     ghost use Rattle.crush_content.specs.Contents.{content_of};
+    ghost use Rattle.crush_map.specs.Map.{IsMap};
 
     /// Finds the value for the groups of the placer's pool, whose content is `content`.
     /// `Err(AllocError)`: an allocation failed.
@@ -78,12 +80,12 @@ impl<G: OfGroups> Last<G> {
         content: Content,
         placer: &Placer<'_>,
     ) -> Result<Self, AllocError>
-        requires { content ≡ content_of placer.now }
+        requires content { content ≡ content_of placer.now }
+        requires map { IsMap placer.now.map }
         ensures { IfOk result (λ last. last.content ≡ content) }
     {
         // what is found on this map holds on each map with its text, since that is this map alone
         canonical_texts_are_read();
-        let _tunables = placer.map().tunables();
         let tenant = String::from_str(alloc, name)?;
         let found = G::build(alloc, placer)?;
         Ok(Last {
@@ -191,7 +193,8 @@ pub(crate) fn renew<G: OfGroups>(
     content: Content,
     placer: &Placer<'_>,
 )
-    requires { content ≡ content_of placer.now }
+    requires content { content ≡ content_of placer.now }
+    requires map { IsMap placer.now.map }
     ensures { IfSome last.new (λ last. last.content ≡ content_of placer.now) }
 {
     if is_of(last, &content) {

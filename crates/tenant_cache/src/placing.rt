@@ -23,7 +23,7 @@ fn number_beside(cache: &PlacementCache, ready: &Ready, pool: &TenantPool) -> Op
     ensures number { IfSome result (λ n. Contains ready.now.numbers (pool.now.parts.id, n)) }
     ensures there { IfSome result (λ n. cache.now.first ≤ n) }
 {
-    let number = ready.number_of(pool.parts().id)?;
+    let number = ready.number_of(pool.id())?;
     if cache.has(number) {
         Some(number)
     } else {
@@ -41,7 +41,7 @@ fn give_number(cache: &mut PlacementCache, inventory: &Inventory, pool: &TenantP
     let Ok(content) = inventory.content(version, pool) else {
         return None;
     };
-    cache.number_of(&content)
+    cache.number_of(content)
 }
 
 /// Keeps a number for the content of a pool beside what the tenant `name` has, unless an allocation
@@ -56,7 +56,7 @@ fn keep_number<B: Bound>(
 )
     ensures { (u : List ℕ) (r : _) → kept_at kept.new u ≡ Some r → (kept_at kept.old u ≡ Some r) ⊎ ((u ≡ name.now) × IsWithNumber ready.now pool.now.parts.id number r) }
 {
-    let Ok(next) = ready.with_number(alloc, pool.parts().id, number) else {
+    let Ok(next) = ready.with_number(alloc, pool.id(), number) else {
         return;
     };
     let Ok(key) = String::from_str(alloc, name) else {

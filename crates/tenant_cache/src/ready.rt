@@ -19,18 +19,24 @@ pub struct Ready {
     inventory: Rc<Inventory>,
     /// The id of a pool and a number; the pair that was given last comes first.
     numbers: Vec<(u32, u64)>,
+    /// How many bytes the inventory takes.
+    bytes: u64,
 }
 
 impl Model for Ready {
+    ghost use Rattle.std.specs.Prelude.{◌≡◌, ◌-◌, ◌^◌, min};
     ghost use Rattle.tenant_cache.specs.Kept.{Ready};
+    ghost use Rattle.tenant_state.specs.Size as spec;
 
     ghost Value = { Ready };
 
     ghost view = { λ a. record { inventory = a.inventory.value; numbers = a.numbers.items } };
+
+    ghost invariant = { λ a. a.bytes ≡ min (spec.size a.inventory.value) (2 ^ 64 - 1) };
 }
 
 impl Ready {
-    ghost use Rattle.std.specs.Prelude.{◌≡◌, ◌<◌, ◌-◌, ◌^◌, ◌&&◌, [], Contains, IfOk, IfSome, min, nat_lt, true};
+    ghost use Rattle.std.specs.Prelude.{◌≡◌, ◌-◌, ◌^◌, ◌&&◌, [], Contains, IfOk, IfSome, is_some, min, nat_lt};
     ghost use Rattle.tenant_cache.specs.Ready.{IsWithNumber};
     ghost use Rattle.tenant_state.specs.Size.{size};
     ghost use Rattle.tenant_state.specs.State.{inventory_after, suits};
@@ -40,9 +46,11 @@ impl Ready {
     pub fn new(alloc: Global, inventory: Rc<Inventory>) -> Self
         ensures { result ≡ record { inventory = inventory.value; numbers = [] } }
     {
+        let bytes = inventory.size();
         Ready {
             inventory,
             numbers: Vec::new(alloc),
+            bytes,
         }
     }
 
@@ -81,27 +89,24 @@ impl Ready {
         Ok(Ready {
             inventory: self.inventory.clone()?,
             numbers,
+            bytes: self.bytes,
         })
     }
 
-    /// Returns whether what the tenant has can take a change: there is room for one more receipt,
-    /// and the change suits the inventory. Takes time linear in the number of exceptions of the
-    /// change.
-    pub fn can_take(&self, change: &Change) -> bool
-        ensures { result ≡ (nat_lt self.now.inventory.epoch RECEIPT_LIMIT && suits change.now.made self.now.inventory) }
+    /// Makes what the tenant has after a change, with no number: its contents are others. `None`,
+    /// exactly where what it has can't take the change: there is no room for one more receipt, or
+    /// the change doesn't suit the inventory. `Err(AllocError)`: an allocation failed; nothing is
+    /// changed.
+    pub fn after(&self, alloc: Global, change: &Change) -> Result<Option<Rc<Ready>>, AllocError>
+        ensures some { IfOk result (λ found. is_some found ≡ (nat_lt self.now.inventory.epoch RECEIPT_LIMIT && suits change.now.made self.now.inventory)) }
+        ensures next { IfOk result (λ found. IfSome found (λ r. r.value ≡ record { inventory = inventory_after change.now self.now.inventory; numbers = [] })) }
     {
-        self.inventory.epoch() < RECEIPT_LIMIT as u64 && self.inventory.suits(&change.made)
-    }
-
-    /// Makes what the tenant has after a change that it can take, with no number: its contents are
-    /// others. `Err(AllocError)`: an allocation failed; nothing is changed.
-    pub fn after(&self, alloc: Global, change: &Change) -> Result<Rc<Ready>, AllocError>
-        requires room { self.now.inventory.epoch < RECEIPT_LIMIT }
-        requires suits { suits change.now.made self.now.inventory ≡ true }
-        ensures { IfOk result (λ r. r.value ≡ record { inventory = inventory_after change.now self.now.inventory; numbers = [] }) }
-    {
-        let inventory = Rc::new(alloc, self.inventory.after(alloc, change)?)?;
-        Ok(Rc::new(alloc, Ready::new(alloc, inventory))?)
+        if self.inventory.epoch() < RECEIPT_LIMIT as u64 && self.inventory.suits(&change.made) {
+            let inventory = Rc::new(alloc, self.inventory.after(alloc, change)?)?;
+            Ok(Some(Rc::new(alloc, Ready::new(alloc, inventory))?))
+        } else {
+            Ok(None)
+        }
     }
 
     /// Returns the bytes of memory that it takes at most, by an estimate. The numbers add nothing:
@@ -109,6 +114,6 @@ impl Ready {
     pub fn size(&self) -> u64
         ensures { result ≡ min (size self.now.inventory) (2 ^ 64 - 1) }
     {
-        self.inventory.size()
+        self.bytes
     }
 }

@@ -167,21 +167,18 @@ impl<T: TenantStore, B: Bound> CachedStore<T, B> {
             → LeavesAsItWasOr name.now (Some (after change.now s)) (T.has_state self.old) (T.may_leave self.new) }
         ensures honest { T.is_honest self.new → T.is_honest self.old }
     {
-        match self.kept.get(name)? {
-            Some(ready) if ready.can_take(change) => {
-                // everything that allocates comes before the change
-                let next = ready.after(self.alloc, change)?;
+        if let Some(ready) = self.kept.get(name)? {
+            // everything that allocates comes before the change
+            if let Some(next) = ready.after(self.alloc, change)? {
                 let key = String::from_str(self.alloc, name)?;
                 self.below.commit(name, change)?;
                 self.kept.put(key, next);
                 self.reports.give_up_left(&self.kept);
-                Ok(())
-            }
-            _ => {
-                self.kept.forget(name);
-                self.below.commit(name, change)
+                return Ok(());
             }
         }
+        self.kept.forget(name);
+        self.below.commit(name, change)
     }
 
     /// Frees the touched groups that are kept, if the tenant `name` asked for them.
@@ -229,13 +226,6 @@ impl<T: TenantStore, B: Bound> TenantStore for CachedStore<T, B> {
     }
 
     fn cached(&mut self, name: &str, query: &Query) -> Option<(Rc<Inventory>, Cached)> {
-        // other queries have nothing in the cache: they are answered after a load
-        if !matches!(
-            query,
-            Query::Group(_, _) | Query::Object(_, _) | Query::Impact(_, _) | Query::Moves(_, _, _)
-        ) {
-            return None;
-        }
         let Ok(Some(ready)) = self.kept.get(name) else {
             return None;
         };

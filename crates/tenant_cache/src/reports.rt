@@ -2,6 +2,7 @@
 
 ghost use Rattle.std.specs.Prelude.{◌≡◌, ◌≤◌, ◌*◌, Some, IfSome};
 ghost use Rattle.crush_content.specs.Contents.{content_of};
+ghost use Rattle.crush_map.specs.Map.{IsMap};
 ghost use Rattle.crush_select.specs.declared.limits.TheConstants.{SIZE_LIMIT};
 ghost use Rattle.crush_pool.specs.declared.limits.TheConstants.{GROUP_LIMIT};
 ghost use Rattle.crush_report.specs.Moves.{gained_in};
@@ -67,10 +68,10 @@ fn find_touched(
     placer: &Placer<'_>,
     device: u32,
 ) -> Option<Listed<u32>>
-    requires { content ≡ content_of placer.now }
+    requires content { content ≡ content_of placer.now }
+    requires map { IsMap placer.now.map }
     ensures { IfSome result (λ groups. Some groups ≡ impact placer.now.map placer.now.states placer.now.pool placer.now.pairs device) }
 {
-    let _tunables = placer.map().tunables();
     renew(alloc, last, name, content, placer);
     match last {
         Some(last) => last.groups_of(alloc, device),
@@ -90,13 +91,13 @@ fn find_moved(
     to: &Placer<'_>,
 ) -> Option<Listed<MoveRow>>
     requires content { content ≡ content_of from.now }
+    requires map { IsMap from.now.map }
     requires states { from.now.states ≡ to.now.states }
     requires pool { from.now.pool ≡ to.now.pool }
     requires pairs { from.now.pairs ≡ to.now.pairs }
     ensures rows { IfSome result (λ rows. Some rows ≡ moves from.now.map to.now.map from.now.states from.now.pool from.now.pairs) }
     ensures gained { IfSome result (λ rows. gained_in rows ≤ SIZE_LIMIT * GROUP_LIMIT) }
 {
-    let _tunables = from.map().tunables();
     renew(alloc, last, name, content, from);
     match last {
         Some(last) => last.moves_to(alloc, to),
@@ -124,7 +125,7 @@ pub(crate) fn touched(
     };
     let device = id_of(placer.map().devices(), device)?;
     let groups = find_touched(alloc, &mut reports.touches, name, content, &placer, device)?;
-    Some(Cached::Touched(pool.parts().id, groups))
+    Some(Cached::Touched(pool.id(), groups))
 }
 
 /// Finds the groups of a tenant's pool that move from the version `from` to the version `to`.
@@ -151,5 +152,5 @@ pub(crate) fn moved(
         return None;
     };
     let rows = find_moved(alloc, &mut reports.lists, name, content, &old, &new)?;
-    Some(Cached::Moved(pool.parts().id, rows))
+    Some(Cached::Moved(pool.id(), rows))
 }

@@ -13,7 +13,6 @@ use Rattle.tenant_reports.specs.Moves.{moves_on, moves_reply, rows_of}
 use Rattle.tenant_resources.specs.Groups.{group_on, group_reply, object_on, object_reply, placed}
 use Rattle.tenant_core.specs.Cached.{Asks, IsCachedFor}
 use Rattle.tenant_core.specs.Queries.{answer}
-use Rattle.tenant_core.specs.declared.cached.Asked.{Asked}
 use Rattle.tenant_core.specs.declared.cached.Asked.TheVariants as asks
 use Rattle.tenant_core.specs.declared.cached.Cached.{Cached}
 use Rattle.tenant_core.specs.declared.cached.Cached.TheVariants.{Placed, Touched, Moved}
@@ -66,12 +65,6 @@ module _ (asked : Query) (i : Inventory) (kept : Cached) where
 
   pub group_is_answered : (id g group : ℕ) (p : Rc Placement Global) → asked ≡ Group id g → kept ≡ Placed group p → IsCachedFor asked i kept → success (group_reply i group p.value) ≡ answer asked i
   group_is_answered id g group p is also h = by_number id g i group p (of_both (Group id g) (Placed group p) is also h) ∙ sym (ap (λ q. answer q i) is)
-
-  pub object_is_answered : (id : ℕ) (name : List ℕ) (group : ℕ) (p : Rc Placement Global) → asked ≡ Object id name → kept ≡ Placed group p → IsCachedFor asked i kept → success (object_reply name i group p.value) ≡ answer asked i
-  object_is_answered id name group p is also h = by_name id name i group p (of_both (Object id name) (Placed group p) is also h) ∙ sym (ap (λ q. answer q i) is)
-
-  pub device_is_answered : (id d own : ℕ) (groups : List ℕ) → asked ≡ Impact id d → kept ≡ Touched own groups → IsCachedFor asked i kept → success (impact_reply i own d groups) ≡ answer asked i
-  device_is_answered id d own groups is also h = by_device id d i own groups (of_both (Impact id d) (Touched own groups) is also h) ∙ sym (ap (λ q. answer q i) is)
 
   pub versions_are_answered : (id v w own : ℕ) (rows : List MoveRow) → asked ≡ Moves id v w → kept ≡ Moved own rows → IsCachedFor asked i kept → success (moves_reply i own v w rows) ≡ answer asked i
   versions_are_answered id v w own rows is also h = by_versions id v w i own rows (of_both (Moves id v w) (Moved own rows) is also h) ∙ sym (ap (λ q. answer q i) is)

@@ -13,15 +13,14 @@ use Rattle.tenant_core.specs.Request.{Request, tenant_in, on_route, on_target, r
 use Rattle.tenant_core.specs.declared.route.Route.{Route}
 use Rattle.tenant_state.specs.State.{TenantState}
 use Rattle.store_faults.specs.declared.StoreFault.{StoreFault}
-use Rattle.store_faults.specs.declared.StoreFault.TheVariants.{NoMemory, Full, Damaged, Failed}
 use Rattle.tenant_messages.specs.Reply.{refused, reply}
 use Rattle.tenant_core.specs.Route.{read, route_of}
 use Rattle.tenant_core.specs.Router.{target_of}
 use Rattle.tenant_core.specs.Target.{Target, methods_in}
-use Rattle.tenant_core.specs.States.{States, HasState, IsDamaged, LeavesStep, Outcomes, Same, Follows, Serves, Shows}
+use Rattle.tenant_core.specs.States.{States, HasState, IsDamaged, LeavesStep, Outcomes, Same, Follows, Shows}
 use Rattle.tenant_core.specs.Effects.{after_effect}
 use Rattle.tenant_core.specs.Step.{Step, decision, decision_or_refusal, step_of, step, tenant_of, is_of}
-use Rattle.tenant_core.specs.StoreReply.{no_memory, store_damaged, store_fault, refused_or_damaged}
+use Rattle.tenant_core.specs.StoreReply.{store_damaged, refused_or_damaged}
 use Rattle.tenant_core.specs.Private.Performing.{LeavesRequest, Performs, HasOneState}
 use Rattle.tenant_core.proofs.Replying.{reply-answered, damaged-answered}
 
@@ -128,17 +127,6 @@ follows_damaged call old new r h bad same = record {
 }
 
 -- ---- whatever the store did
-
-gives-up : (call : Call) (old new : States) (fault : StoreFault) → Same old new → (fault ≡ Damaged → Follows call old new store_damaged) → Serves call old new (store_fault fault)
-gives-up call old new NoMemory same damaged = inr (record { unavailable = inl refl; same = same })
-gives-up call old new Full same damaged = inr (record { unavailable = inr refl; same = same })
-gives-up call old new Failed same damaged = inr (record { unavailable = inr refl; same = same })
-gives-up call old new Damaged same damaged = inl (damaged refl)
-
-pub serves_fault : (call : Call) (old new : States) (fault : StoreFault) (replied : Reply) → Same old new → (fault ≡ Damaged → Follows call old new store_damaged)
-    → (replied ≡ store_fault fault) ⊎ (replied ≡ no_memory) → Serves call old new replied
-serves_fault call old new fault replied same damaged (inl is) = rw is (gives-up call old new fault same damaged)
-serves_fault call old new fault replied same damaged (inr is) = inr (record { unavailable = inl is; same = same })
 
 -- ---- a call of no tenant
 

@@ -11,17 +11,16 @@ use Rattle.crush_map.specs.declared.limits.TheConstants.{NUMBER_LIMIT}
 use Rattle.crush_pool.specs.declared.changes.DeviceChange.{DeviceChange}
 use Rattle.crush_pool.specs.declared.pool.PoolParts.{PoolParts}
 use Rattle.crush_report.specs.DeviceCsv.{IsChangeRecord, IsNumber, Says}
-use Rattle.tenant_messages.proofs.Finding.{json_finds}
 use Rattle.tenant_messages.specs.Forms.{IsUnder}
 use Rattle.tenant_messages.specs.Numbers.{IsRequestNumber, has_length}
 use Rattle.tenant_messages.specs.declared.limits.TheConstants.{REQUEST_NUMBER_LIMIT}
 use Rattle.tenant_reports.proofs.CsvForms.{finds_changes as finds_csv_changes}
-use Rattle.tenant_reports.specs.DeviceCsv.{device_csv_request_of}
+use Rattle.tenant_reports.specs.DeviceCsv.{changes_of as csv_changes_of}
 use Rattle.tenant_resources.proofs.DeviceForms.{finds_changes}
 use Rattle.tenant_resources.proofs.DeviceRanges.{changes_in_range}
 use Rattle.tenant_resources.proofs.PoolForms.{finds_pool}
-use Rattle.tenant_resources.specs.Devices.{devices_request_of, is_in_range}
-use Rattle.tenant_resources.specs.Pools.{pool_request_of}
+use Rattle.tenant_resources.specs.Devices.{changes_of, is_in_range}
+use Rattle.tenant_resources.specs.Pools.{pool_of}
 
 -- ---- request numbers
 
@@ -32,14 +31,13 @@ number_in_form d number is =
     let least : nat_le 1 (length number) ≡ true = grind (arith, nat_tests, some) in
     let most : nat_le (length number) REQUEST_NUMBER_LIMIT ≡ true = grind (arith, nat_tests, few) in rw (least, most) refl
 
-pub pool_number : (body : List ℕ) (asked : List ℕ × PoolParts) → pool_request_of body ≡ Some asked → has_length asked.0 ≡ true
-pool_number body asked h = let is = (json_finds finds_pool body asked).0 h in number_in_form is.value asked.0 is.says.request
+pub pool_number : (d : Data) (asked : List ℕ × PoolParts) → pool_of d ≡ Some asked → has_length asked.0 ≡ true
+pool_number d asked h = number_in_form d asked.0 (finds_pool.says d asked h).request
 
 -- ---- orders
 
-pub changes_order : (body : List ℕ) (asked : List ℕ × List DeviceChange) → devices_request_of body ≡ Some asked → list_all is_in_range asked.1 ≡ true
-changes_order body asked h =
-    let is = (json_finds finds_changes body asked).0 h in let listed = is.says.devices.says in changes_in_range listed.values asked.1 listed.each
+pub changes_order : (d : Data) (asked : List ℕ × List DeviceChange) → changes_of d ≡ Some asked → list_all is_in_range asked.1 ≡ true
+changes_order d asked h = let listed = (finds_changes.says d asked h).devices.says in changes_in_range listed.values asked.1 listed.each
 
 weight_in_range : (text : List ℕ) (o : Option ℕ) → Says (IsNumber FULL) text o → option_map_or (λ w. nat_le w FULL) o true ≡ true
 weight_in_range text None is = absurd is
@@ -57,6 +55,5 @@ records_in_range [] (c ∷ cs) is = absurd is
 records_in_range (r ∷ rs) [] is = absurd is
 records_in_range (r ∷ rs) (c ∷ cs) is = let one = record_in_range r c is.0 in let rest = records_in_range rs cs is.1 in rw (one, rest) refl
 
-pub csv_order : (body : List ℕ) (asked : List ℕ × List DeviceChange) → device_csv_request_of body ≡ Some asked → list_all is_in_range asked.1 ≡ true
-csv_order body asked h =
-    let is = (json_finds finds_csv_changes body asked).0 h in let says = is.says.csv.says.says in records_in_range says.rows asked.1 says.each
+pub csv_order : (d : Data) (asked : List ℕ × List DeviceChange) → csv_changes_of d ≡ Some asked → list_all is_in_range asked.1 ≡ true
+csv_order d asked h = let says = (finds_csv_changes.says d asked h).csv.says.says in records_in_range says.rows asked.1 says.each

@@ -58,7 +58,7 @@ impl Query {
             }
             Query::Object(id, name) => {
                 let pool = inventory.pools().get(*id)?;
-                let group = pool.pool().group_of(name.as_str().as_bytes());
+                let group = pool.pool().group_of_hash(name.hash());
                 Some((pool, Asked::Group(group)))
             }
             Query::Impact(id, device) => {

@@ -18,7 +18,7 @@ use crush_text::texts_are_read_as_they_say;
 use std::alloc::{AllocError, Global};
 use std::marker::Model;
 use std::rc::Rc;
-use tenant_messages::{Problem, Refusal, Reply, answered, or_problem, refused, repeated};
+use tenant_messages::{Problem, Refusal, Reply, answered, refused, repeated};
 use tenant_resources::{Accepted, devices, exceptions, maps, pools};
 use tenant_state::limits::RECEIPT_LIMIT;
 use tenant_state::{Change, Inventory, Receipt, TenantState, is_repeat};
@@ -124,9 +124,10 @@ fn apply_new(
     if inventory.epoch() >= RECEIPT_LIMIT as u64 {
         return Ok((None, refused(alloc, Problem::TenantLimit)?));
     }
-    match or_problem(accept(alloc, &command.order, inventory))? {
+    match accept(alloc, &command.order, inventory) {
         Ok(accepted) => with_receipt(alloc, command, accepted),
-        Err(problem) => Ok((None, refused(alloc, problem)?)),
+        Err(Refusal::Problem(problem)) => Ok((None, refused(alloc, problem)?)),
+        Err(Refusal::NoMemory) => Err(AllocError),
     }
 }
 

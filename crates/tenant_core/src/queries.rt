@@ -6,7 +6,7 @@ ghost use Rattle.tenant_messages.specs.Refusals.{Answers};
 ghost use Rattle.tenant_messages.specs.Reply.{reply};
 
 use std::alloc::{AllocError, Global};
-use tenant_messages::{Refusal, Reply, or_refused};
+use tenant_messages::{Refusal, Reply, refused};
 use tenant_picks::{PickRequest, picks};
 use tenant_reports::{impact, moves, usage};
 use tenant_resources::{ObjectName, RuleTest, exceptions, groups, maps, rule_tests};
@@ -59,5 +59,9 @@ fn reply_or_refusal(alloc: Global, inventory: &Inventory, query: &Query) -> Resu
 pub fn answer(alloc: Global, inventory: &Inventory, query: &Query) -> Result<Reply, AllocError>
     ensures { IfOk result (λ r. r ≡ reply (spec.answer query.now inventory.now)) }
 {
-    or_refused(alloc, reply_or_refusal(alloc, inventory, query))
+    match reply_or_refusal(alloc, inventory, query) {
+        Ok(reply) => Ok(reply),
+        Err(Refusal::Problem(problem)) => refused(alloc, problem),
+        Err(Refusal::NoMemory) => Err(AllocError),
+    }
 }

@@ -14,7 +14,7 @@ use crate::router::Target;
 use crush_map::Text;
 use crush_words::number_from_text;
 use std::alloc::Global;
-use tenant_messages::{Problem, Refusal, text_of};
+use tenant_messages::{Problem, Refusal, read_value, text_of};
 use tenant_picks::picks;
 use tenant_reports::device_csv;
 use tenant_resources::{devices, exceptions, groups, maps, pools, rule_tests};
@@ -160,34 +160,35 @@ pub(crate) fn read<'p>(
         Route::DropTenant => if_empty(body, Action::DropTenant),
         Route::ImportMap => {
             let body = text_of(body)?;
-            let (number, text) = maps::read_import(alloc, body)?;
+            let (number, text) = maps::read_import(alloc, &read_value(alloc, body)?)?;
             Ok(command(target, body, number, Order::ImportMap(text)))
         }
         Route::Version => if_empty(body, Action::Query(Query::Version(number(target, "v")?))),
         Route::ChangeDevices => {
             let body = text_of(body)?;
-            let (number, changes) = devices::read_changes(alloc, body)?;
+            let (number, changes) = devices::read_changes(alloc, &read_value(alloc, body)?)?;
             Ok(command(target, body, number, Order::ChangeDevices(changes)))
         }
         Route::ChangeDevicesByCsv => {
             let body = text_of(body)?;
-            let (number, changes) = device_csv::read_changes(alloc, body)?;
+            let (number, changes) = device_csv::read_changes(alloc, &read_value(alloc, body)?)?;
             Ok(command(target, body, number, Order::ChangeDevices(changes)))
         }
         Route::CreatePool => {
             let body = text_of(body)?;
-            let (number, pool) = pools::read_pool(alloc, body)?;
+            let (number, pool) = pools::read_pool(alloc, &read_value(alloc, body)?)?;
             Ok(command(target, body, number, Order::CreatePool(pool)))
         }
         Route::SetExceptions => {
             let body = text_of(body)?;
-            let (number, (id, pairs)) = exceptions::read_exceptions(alloc, body)?;
+            let value = read_value(alloc, body)?;
+            let (number, (id, pairs)) = exceptions::read_exceptions(alloc, &value)?;
             let order = Order::SetExceptions(id, pairs);
             Ok(command(target, body, number, order))
         }
         Route::RemovePool => {
             let body = text_of(body)?;
-            let (number, id) = pools::read_removal(alloc, body)?;
+            let (number, id) = pools::read_removal(alloc, &read_value(alloc, body)?)?;
             Ok(command(target, body, number, Order::RemovePool(id)))
         }
         Route::Exceptions => {
@@ -200,7 +201,7 @@ pub(crate) fn read<'p>(
         }
         Route::Object => {
             let pool = number(target, "p")?;
-            let name = groups::read_name(alloc, text_of(body)?)?;
+            let name = groups::read_name(alloc, &read_value(alloc, text_of(body)?)?)?;
             Ok(Action::Query(Query::Object(pool, name)))
         }
         Route::Usage => if_empty(body, Action::Query(Query::Usage(number(target, "p")?))),
@@ -213,10 +214,14 @@ pub(crate) fn read<'p>(
             let (pool, device) = (number(target, "p")?, number(target, "d")?);
             if_empty(body, Action::Query(Query::Impact(pool, device)))
         }
-        Route::Pick => Ok(Action::Query(Query::Pick(picks::read_pick(alloc, text_of(body)?)?))),
-        Route::Test => Ok(Action::Query(Query::Test(rule_tests::read_test(
-            alloc,
-            text_of(body)?,
-        )?))),
+        Route::Pick => {
+            let pick = picks::read_pick(alloc, &read_value(alloc, text_of(body)?)?)?;
+            Ok(Action::Query(Query::Pick(pick)))
+        }
+        Route::Test => {
+            let value = read_value(alloc, text_of(body)?)?;
+            let test = rule_tests::read_test(&value).ok_or(Problem::BadRequest)?;
+            Ok(Action::Query(Query::Test(test)))
+        }
     }
 }

@@ -1,14 +1,13 @@
 //! Tenants, at `/t/{t}`: PUT creates one, GET shows what it has, DELETE drops it.
 
-ghost use Rattle.std.specs.Prelude.{◌≡◌, IfOk, option_map};
+ghost use Rattle.std.specs.Prelude.{◌≡◌, IfOk};
 ghost use Rattle.serde_json.specs.View.{view};
 ghost use Rattle.tenant_core.specs.Tenants as spec;
-ghost use Rattle.tenant_messages.specs.Reply.{reply, success};
+ghost use Rattle.tenant_messages.specs.Reply.{created, reply, success};
 
-use crate::decision::{Decision, Effect};
 use serde_json::{Value, json};
 use std::alloc::{AllocError, Global};
-use tenant_messages::{Problem, Reply, created, refused, success};
+use tenant_messages::{Reply, created, success};
 use tenant_state::Inventory;
 
 // ---- bodies of replies
@@ -41,28 +40,13 @@ fn removal(alloc: Global, tenant: &str) -> Result<Value, AllocError>
     json!(in alloc; {"dropped": tenant})
 }
 
-// ---- decisions and replies
+// ---- replies
 
-/// Makes the decision that creates the tenant, if it is absent (`None`); if it is there, the reply
-/// names `Exists`.
-pub(crate) fn create(
-    alloc: Global,
-    tenant: &str,
-    inventory: Option<&Inventory>,
-) -> Result<Decision, AllocError>
-    ensures effect { IfOk result (λ d. d.effect ≡ (spec.created_on tenant.now (option_map (λ s. s.now) inventory.entry)).effect) }
-    ensures reply { IfOk result (λ d. d.reply ≡ reply (spec.created_on tenant.now (option_map (λ s. s.now) inventory.entry)).answer) }
+/// Makes the reply to the creation of a tenant.
+pub(crate) fn create(alloc: Global, tenant: &str) -> Result<Reply, AllocError>
+    ensures { IfOk result (λ r. r ≡ reply (created (spec.creation tenant.now))) }
 {
-    Ok(match inventory {
-        None => Decision {
-            effect: Effect::Create,
-            reply: created(alloc, &creation(alloc, tenant)?)?,
-        },
-        Some(_) => Decision {
-            effect: Effect::Keep,
-            reply: refused(alloc, Problem::Exists)?,
-        },
-    })
+    created(alloc, &creation(alloc, tenant)?)
 }
 
 /// Makes the reply that says what a tenant has.
@@ -72,13 +56,9 @@ pub(crate) fn show(alloc: Global, tenant: &str, inventory: &Inventory) -> Result
     success(alloc, &summary(alloc, tenant, inventory)?)
 }
 
-/// Makes the decision that drops a tenant, which is there.
-pub(crate) fn drop_tenant(alloc: Global, tenant: &str) -> Result<Decision, AllocError>
-    ensures effect { IfOk result (λ d. d.effect ≡ Effect.Remove) }
-    ensures reply { IfOk result (λ d. d.reply ≡ reply (success (spec.removal tenant.now))) }
+/// Makes the reply to the removal of a tenant.
+pub(crate) fn drop_tenant(alloc: Global, tenant: &str) -> Result<Reply, AllocError>
+    ensures { IfOk result (λ r. r ≡ reply (success (spec.removal tenant.now))) }
 {
-    Ok(Decision {
-        effect: Effect::Remove,
-        reply: success(alloc, &removal(alloc, tenant)?)?,
-    })
+    success(alloc, &removal(alloc, tenant)?)
 }

@@ -1,5 +1,4 @@
 pub mod ClosedFacts
 pub mod RefusedFacts
 pub mod StoredFacts
-pub mod TableFacts
 pub mod UsedFacts

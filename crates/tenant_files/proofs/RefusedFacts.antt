@@ -100,21 +100,18 @@ module _ {D : Type 0} {g : disk.Ghosts D} where
       }
 
   -- a store that worked was closed before it was used
-  pub given_back : SeenMayStay g → (image : Image) (kept : Held (FileStore D g) × Bool) (conn : Held (FileStore D g)) (files : Files D) → kept.1 ≡ false → conn ≡ kept.0
-      → (HasCleanDisk (file_state conn) → IsHonest over_files kept) → IsLeft conn files → IsFound g (HasCleanDisk (file_state kept.0)) image (StandsFor (file_state kept.0).now.trees)
-      → IsUnused g image files
-  given_back stays image kept conn files works same honest closed opening =
-      let before : AreClean g files.log files.db → HasCleanDisk (file_state kept.0) =
-      λ clean. subst (λ (x : Held (FileStore D g)). HasCleanDisk (file_state x)) same (closed.was_clean clean) in
+  pub given_back : SeenMayStay g → (image : Image) (kept : Held (FileStore D g) × Bool) (files : Files D) → kept.1 ≡ false → (HasCleanDisk (file_state kept.0) → IsHonest over_files kept)
+      → IsLeft kept.0 files → IsFound g (HasCleanDisk (file_state kept.0)) image (StandsFor (file_state kept.0).now.trees) → IsUnused g image files
+  given_back stays image kept files works honest closed opening =
       let states = StatesIn (file_state opening.was).committed in
       record {
         was = opening.was;
-        finds = record { opened = λ clean. opening.finds.opened (before clean); found = λ clean. opening.finds.found (before clean) };
+        finds = record { opened = λ clean. opening.finds.opened (closed.was_clean clean); found = λ clean. opening.finds.found (closed.was_clean clean) };
         last = closed.last;
         is = closed.is;
         left = λ clean rows there.
             let ready = (honest (closed.was_clean clean)).ready works in
-            let may : (file_state kept.0).may_leave rows = subst (λ (x : Held (FileStore D g)). (file_state x).may_leave rows) same (closed.closed.quiet.outcomes rows there) in
-            let alone : rows ≡ (file_state kept.0).now.trees = left_alone over_files (λ s db is_open may. settled_at s stays db is_open may) kept ready rows may in
-            inr (subst (λ (db : Trees). Same states (StandsFor db)) (sym alone) (turned (StandsFor (file_state kept.0).now.trees) states (opening.same (before clean))));
+            let alone : rows ≡ (file_state kept.0).now.trees =
+            left_alone over_files (λ s db is_open may. settled_at s stays db is_open may) kept ready rows (closed.closed.quiet.outcomes rows there) in
+            inr (subst (λ (db : Trees). Same states (StandsFor db)) (sym alone) (turned (StandsFor (file_state kept.0).now.trees) states (opening.same (closed.was_clean clean))));
       }

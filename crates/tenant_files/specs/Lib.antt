@@ -1,4 +1,5 @@
 pub mod Closed
+pub mod Closing
 pub mod Opened
 pub mod Refused
 pub mod Stored

@@ -1,15 +1,18 @@
-//! Database files of tenants: opening and closing, and whether they are where they were.
+//! Database files of tenants: opening and closing, whether they are where they were, and stores
+//! over them that keep in memory what tenants have.
 #![tactic(auto)]
 
 mod closing;
 mod fault;
 mod log;
 mod opening;
+mod ready;
 mod refused;
 mod watch;
 
-pub use closing::{Closed, close_unless_failed, give_back};
+pub use closing::{Closed, close_store};
 pub use fault::FileFault;
-pub use opening::{READY_BYTES, open_store};
+pub use opening::open_watched;
+pub use ready::{READY_BYTES, ReadyStore, close_ready, ready_over};
 pub use refused::Refused;
 pub use watch::FileWatch;

@@ -10,20 +10,17 @@ ghost use Rattle.tenant_rows.specs.Rows.{StandsFor};
 ghost use Rattle.tenant_files.specs.Opened.{IsFound};
 ghost use Rattle.tenant_files.specs.Refused.{IsRefused};
 
+use crate::closing::give_back;
 use crate::fault::{FileFault, fault_of};
 use crate::log::{LogBefore, log_before};
 use crate::refused::Refused;
+use crate::watch::FileWatch;
 use sqlite::{Connection, Error, ErrorCode, FileStore, Leftover};
 use sqlite_disk::{Disk, Start};
 use sqlite_std_file::FileFrom;
 use std::rt::HostRuntime;
 use tenant_core::StoreFault;
 use tenant_store::Store;
-
-/// The greatest number of bytes of what tenants have that are kept in memory, where more than one
-/// tenant's are: 256 MiB. Hundreds of tenants with maps of middling size fit, and most of a small
-/// machine's memory remains for the file's pages and for the script.
-pub const READY_BYTES: u64 = 268_435_456;
 
 /// Returns whether `error` says that a file is refused for what it holds.
 fn is_refusal(error: Error) -> bool {
@@ -73,7 +70,7 @@ fn unread<D: Disk + Drop>(
 /// the tables of this service; in the last case it is unchanged. With `FileFault::NoMemory`: an
 /// allocation failed; the tables may have been made, or those of schema 1 replaced, whole, for the
 /// same states.
-pub fn open_store<S: Start>(
+fn open_store<S: Start>(
     rt: &HostRuntime,
     path: &str,
     start: S,
@@ -100,5 +97,32 @@ pub fn open_store<S: Start>(
                 files: Some(store.close()),
             })
         }
+    }
+}
+
+/// Opens the tables in the file at `path`, as `open_store` does, and makes a watch over the file.
+///
+/// `Err`: as `open_store` answers it; also, with `FileFault::Store`, where the file was moved or
+/// removed meanwhile, and with `FileFault::NoMemory` where an allocation for the watch failed.
+pub fn open_watched<'a, S: Start>(
+    rt: &'a HostRuntime,
+    path: &'a str,
+    start: S,
+) -> Result<(Store<FileStore<FileFrom<S>>>, FileWatch<'a>), Refused<FileFrom<S>>>
+    ensures live { IfOk result (λ r. r.0.1 ≡ false) }
+
+    // The rows stand for the states that the files held.
+    ensures found { IfOk result (λ r. IsFound ⟦<FileFrom<S> as Disk>⟧ (HasCleanDisk (file_state r.0.0)) (image_at S.Start) (StandsFor (file_state r.0.0).now.trees)) }
+
+    // Where the files are given back, what they held is there, also after a crash.
+    ensures refused { IfErr result (λ e. IfSome e.files (IsRefused ⟦<FileFrom<S> as Disk>⟧ (image_at S.Start))) }
+{
+    let store = match open_store(rt, path, start) {
+        Ok(store) => store,
+        Err(refused) => return Err(refused),
+    };
+    match FileWatch::new(rt, path) {
+        Ok(watch) => Ok((store, watch)),
+        Err(fault) => Err(give_back(store, fault)),
     }
 }

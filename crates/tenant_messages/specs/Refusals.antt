@@ -13,11 +13,6 @@ Gives view (Ok a) given = given ≡ Ok (view a)
 Gives view (Err (refusal.Problem problem)) given = given ≡ Err problem
 Gives view (Err refusal.NoMemory) given = ⊤
 
--- the outcome of a check that gave a value or a problem
-abbrev pub came_of : {A : Type 0} → Result A Problem → Result A Refusal
-came_of (Ok a) = Ok a
-came_of (Err problem) = Err (refusal.Problem problem)
-
 -- ---- answers
 
 -- the answer to a question: 200 with a body that says what was found, or why nothing was found

@@ -16,7 +16,7 @@ pub use json::{
 };
 pub use pieces::{done, push_number, push_slot, push_slots};
 pub use reply::{
-    Problem, Refusal, Reply, SuccessStatus, answered, created, error, no_memory, or_problem,
-    or_refused, refused, repeated, success, written,
+    Problem, Refusal, Reply, SuccessStatus, answered, created, error, no_memory, refused, repeated,
+    success, written,
 };
 pub use slots::{ids_json, slot_json, slots_json};

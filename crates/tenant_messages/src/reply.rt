@@ -1,9 +1,8 @@
 //! Replies: a status, and a body of compact JSON.
 
-ghost use Rattle.std.specs.Prelude.{◌≡◌, false, IfOk, OnErr, Err};
+ghost use Rattle.std.specs.Prelude.{◌≡◌, false, IfOk};
 ghost use Rattle.serde_json.specs.View.{view};
 ghost use Rattle.serde_json.specs.Written.{has_float};
-ghost use Rattle.tenant_messages.specs.Refusals.{Answers, came_of};
 ghost use Rattle.tenant_messages.specs.Reply as spec;
 
 use crush_grammar::{TextFault, code_text};
@@ -201,30 +200,6 @@ pub fn refused(alloc: Global, problem: Problem) -> Result<Reply, AllocError>
     ensures { IfOk result (λ r. r ≡ spec.reply (spec.refused problem)) }
 {
     written(alloc, problem.status(), &problem_json(alloc, problem)?)
-}
-
-/// Splits the outcome of a check: a value or a problem is returned. `Err(AllocError)`: exactly
-/// where the outcome is `NoMemory`. Allocates nothing.
-pub fn or_problem<T>(outcome: Result<T, Refusal>) -> Result<Result<T, Problem>, AllocError>
-    ensures found { IfOk result (λ found. outcome ≡ came_of found) }
-    ensures no_memory { OnErr result (outcome ≡ Err Refusal.NoMemory) }
-{
-    match outcome {
-        Ok(value) => Ok(Ok(value)),
-        Err(Refusal::Problem(problem)) => Ok(Err(problem)),
-        Err(Refusal::NoMemory) => Err(AllocError),
-    }
-}
-
-/// Returns the reply, or makes the one that names the problem. `Err(AllocError)`: an allocation
-/// failed, here or before; nothing is changed.
-pub fn or_refused(alloc: Global, reply: Result<Reply, Refusal>) -> Result<Reply, AllocError>
-    ensures { (answer : spec.Answer) → Answers reply answer → IfOk result (λ r. r ≡ spec.reply answer) }
-{
-    match or_problem(reply)? {
-        Ok(reply) => Ok(reply),
-        Err(problem) => refused(alloc, problem),
-    }
 }
 
 // ---- answers

@@ -20,9 +20,7 @@ use crush_map::{ItemId, Kind, Weight, has_equal_weights, total_weight};
 use serde_json::{Value, json};
 use std::alloc::{AllocError, Global};
 use std::marker::Model;
-use tenant_messages::{
-    Problem, Refusal, Reply, has_keys, integer, natural, read_value, success, text,
-};
+use tenant_messages::{Problem, Refusal, Reply, has_keys, integer, natural, success, text};
 
 /// The most entries of which each is compared with each other: for more of them a table of flags
 /// takes less time.
@@ -242,8 +240,8 @@ fn bucket(alloc: Global, value: &Value) -> Result<AskedBucket, Refusal>
 // ---- the body
 
 /// Reads the pick that a body's value says. The problem is `BadRequest`, exactly where the value
-/// doesn't have the form of a pick.
-fn pick(alloc: Global, value: &Value) -> Result<PickRequest, Refusal>
+/// doesn't have the form (`IsPickBody`).
+pub fn read_pick(alloc: Global, value: &Value) -> Result<PickRequest, Refusal>
     ensures { Reads (λ p. p) result (spec.pick_of (view value.now)) }
 {
     if !has_keys(value, 3) {
@@ -253,14 +251,6 @@ fn pick(alloc: Global, value: &Value) -> Result<PickRequest, Refusal>
     let r = natural(value, "r", ATTEMPT_LIMIT).ok_or(Problem::BadRequest)?;
     let x = natural(value, "x", 4_294_967_295).ok_or(Problem::BadRequest)?;
     Ok(PickRequest { bucket, x, r })
-}
-
-/// Reads the pick that a body asks for. The problem is `BadRequest`, exactly where the body doesn't
-/// have the form (`IsPickBody`).
-pub fn read_pick(alloc: Global, body: &str) -> Result<PickRequest, Refusal>
-    ensures { Reads (λ p. p) result (spec.pick_request_of body.now) }
-{
-    pick(alloc, &read_value(alloc, body)?)
 }
 
 // ---- the answer

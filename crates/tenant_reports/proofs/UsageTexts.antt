@@ -8,7 +8,6 @@ use Rattle.json.specs.Print.{escape_byte}
 use Rattle.crush_report.specs.declared.rows.UsageRow.{UsageRow}
 use Rattle.tenant_messages.specs.Slots.{list_json}
 use Rattle.tenant_reports.specs.Usage.{usage_reply, row_json}
-use Rattle.tenant_state.specs.State.{Inventory, newest}
 
 -- the pieces that are added to the end, one by one, are the rest
 behind : (old a b c d e f : List ℕ) → old ++ a ++ b ++ c ++ d ++ e ++ f ≡ old ++ (a ++ (b ++ (c ++ (d ++ (e ++ f)))))
@@ -37,11 +36,11 @@ four a b c d e f =
     ∙ append_assoc (a ++ b) c (d ++ (e ++ f))
     ∙ append_assoc a b (c ++ (d ++ (e ++ f)))
 
-pub body_by_pieces : (inventory : Inventory) (id : ℕ) (rows : List UsageRow)
-    → (codes "{\"epoch\":" ++ decimal inventory.epoch) ++ (codes ",\"pool\":" ++ decimal id) ++ codes ",\"rows\":" ++ compact_text (list_json (map row_json rows))
-    ++ (codes ",\"version\":" ++ decimal (newest inventory)) ++ codes "}"
-    ≡ compact_text (usage_reply inventory id rows)
+pub body_by_pieces : (epoch version id : ℕ) (rows : List UsageRow)
+    → (codes "{\"epoch\":" ++ decimal epoch) ++ (codes ",\"pool\":" ++ decimal id) ++ codes ",\"rows\":" ++ compact_text (list_json (map row_json rows))
+    ++ (codes ",\"version\":" ++ decimal version) ++ codes "}"
+    ≡ compact_text (usage_reply epoch version id rows)
 unfolding escape_byte
-body_by_pieces inventory id rows =
-    four (codes "{\"epoch\":" ++ decimal inventory.epoch) (codes ",\"pool\":" ++ decimal id) (codes ",\"rows\":") (compact_text (list_json (map row_json rows)))
-    (codes ",\"version\":" ++ decimal (newest inventory)) (codes "}")
+body_by_pieces epoch version id rows =
+    four (codes "{\"epoch\":" ++ decimal epoch) (codes ",\"pool\":" ++ decimal id) (codes ",\"rows\":") (compact_text (list_json (map row_json rows)))
+    (codes ",\"version\":" ++ decimal version) (codes "}")

@@ -22,10 +22,10 @@ row_json row =
     ∷ (codes "permille", natural row.permille) ∷ (codes "primaries", natural row.primaries) ∷ []))
 
 -- {"epoch": E, "pool": p, "rows": [ROW, ..], "version": V}
-abbrev pub usage_reply : Inventory → ℕ → List UsageRow → Data
-usage_reply inventory id rows =
-    object (members_of ((codes "epoch", natural inventory.epoch) ∷ (codes "pool", natural id) ∷ (codes "rows", list_json (map row_json rows))
-    ∷ (codes "version", natural (newest inventory)) ∷ []))
+abbrev pub usage_reply : ℕ → ℕ → ℕ → List UsageRow → Data
+usage_reply epoch version id rows =
+    object (members_of ((codes "epoch", natural epoch) ∷ (codes "pool", natural id) ∷ (codes "rows", list_json (map row_json rows))
+    ∷ (codes "version", natural version) ∷ []))
 
 -- the counts on a map with the pool's rule
 abbrev pub on_map : Result PoolOnMap Problem → Result (List UsageRow) Problem
@@ -38,7 +38,7 @@ rows_of inventory p = on_map (on_newest inventory p)
 
 abbrev pub usage_on : Inventory → Option TenantPool → Answer
 usage_on inventory None = refused NoPool
-usage_on inventory (Some p) = answer_with (usage_reply inventory p.parts.id) (rows_of inventory p)
+usage_on inventory (Some p) = answer_with (usage_reply inventory.epoch (newest inventory) p.parts.id) (rows_of inventory p)
 
 -- the counts of the pool with an id
 abbrev pub usage_answer : ℕ → Inventory → Answer

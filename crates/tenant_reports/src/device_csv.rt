@@ -12,7 +12,7 @@ use crush_pool::DeviceChange;
 use crush_report::read_device_csv;
 use serde_json::Value;
 use std::alloc::Global;
-use tenant_messages::{Problem, Refusal, has_keys, read_value, request_number, text};
+use tenant_messages::{Problem, Refusal, has_keys, request_number, text};
 
 /// Reads the changes that a CSV says, in the order of its lines. The problem is `BadRequest`,
 /// exactly where the text doesn't have the form of a CSV of changes.
@@ -26,8 +26,8 @@ fn changes(alloc: Global, csv: &str) -> Result<Listed<DeviceChange>, Refusal>
 }
 
 /// Reads the request number and the changes that a body's value says. The problem is `BadRequest`,
-/// exactly where the value doesn't have the form of the body.
-fn changes_in(alloc: Global, value: &Value) -> Result<(Text, Listed<DeviceChange>), Refusal>
+/// exactly where the value doesn't have the form (`IsDeviceCsvBody`).
+pub fn read_changes(alloc: Global, value: &Value) -> Result<(Text, Listed<DeviceChange>), Refusal>
     ensures { Reads (λ asked. asked) result (spec.changes_of (view value.now)) }
 {
     if !has_keys(value, 2) {
@@ -37,12 +37,4 @@ fn changes_in(alloc: Global, value: &Value) -> Result<(Text, Listed<DeviceChange
     let csv = text(value, "csv").ok_or(Problem::BadRequest)?;
     let changes = changes(alloc, csv)?;
     Ok((Text::copy(alloc, number)?, changes))
-}
-
-/// Reads the request number and the changes that a body asks for. The problem is `BadRequest`,
-/// exactly where the body doesn't have the form (`IsDeviceCsvBody`).
-pub fn read_changes(alloc: Global, body: &str) -> Result<(Text, Listed<DeviceChange>), Refusal>
-    ensures { Reads (λ asked. asked) result (spec.device_csv_request_of body.now) }
-{
-    changes_in(alloc, &read_value(alloc, body)?)
 }

@@ -3,34 +3,15 @@
 
 ghost use Rattle.std.specs.Prelude.{◌≡◌, IfOk, string_bytes};
 ghost use Rattle.serde_json.specs.Written.{compact_text};
-ghost use Rattle.tenant_messages.specs.Refusals.{Answers, Gives};
+ghost use Rattle.tenant_messages.specs.Refusals.{Answers};
 ghost use Rattle.tenant_messages.specs.Reply.{reply, success};
 ghost use Rattle.tenant_reports.specs.Usage as spec;
 
 use crate::rows::{Row, push_rows};
-use crush_map::Listed;
 use crush_report::{UsageRow, usage_with};
 use std::alloc::{AllocError, Global};
 use tenant_messages::{Problem, Refusal, Reply, done, push_number};
-use tenant_state::{Inventory, TenantPool};
-
-// ---- the counts
-
-/// Counts a row for each device, on the newest version. The problem is `NoVersion` where there is
-/// no version, and `NoRule` where the newest lacks the pool's rule.
-fn rows_of(
-    alloc: Global,
-    inventory: &Inventory,
-    pool: &TenantPool,
-) -> Result<Listed<UsageRow>, Refusal>
-    ensures { Gives (λ rows. rows) result (spec.rows_of inventory.now pool.now) }
-{
-    let placer = inventory.on_newest(pool)?;
-    let rows = usage_with(alloc, &placer)?;
-    Ok(rows)
-}
-
-// ---- the answer
+use tenant_state::Inventory;
 
 /// The most bytes of a row with a comma, and of the rest of the body.
 const ROW_BYTES: usize = 84;
@@ -57,19 +38,20 @@ impl Row for UsageRow {
 #[tactic(auto, using(crate::proofs::UsageTexts::body_by_pieces))]
 fn usage_text(
     alloc: Global,
-    inventory: &Inventory,
+    epoch: u64,
+    version: u64,
     id: u32,
     rows: &[UsageRow],
 ) -> Result<String, AllocError>
-    ensures { IfOk result (λ text. string_bytes text ≡ compact_text (spec.usage_reply inventory.now id rows.now)) }
+    ensures { IfOk result (λ text. string_bytes text ≡ compact_text (spec.usage_reply epoch version id rows.now)) }
 {
     let bytes = rows.len().saturating_mul(ROW_BYTES);
     let mut text = String::with_capacity(alloc, bytes.saturating_add(REST_BYTES))?;
-    push_number(&mut text, "{\"epoch\":", inventory.epoch())?;
+    push_number(&mut text, "{\"epoch\":", epoch)?;
     push_number(&mut text, ",\"pool\":", u64::from(id))?;
     text.push_str(",\"rows\":")?;
     push_rows(&mut text, rows)?;
-    push_number(&mut text, ",\"version\":", inventory.newest())?;
+    push_number(&mut text, ",\"version\":", version)?;
     text.push_str("}")?;
     Ok(text)
 }
@@ -77,23 +59,27 @@ fn usage_text(
 /// Makes the reply with `rows`.
 fn usage_reply(
     alloc: Global,
-    inventory: &Inventory,
+    epoch: u64,
+    version: u64,
     id: u32,
     rows: &[UsageRow],
 ) -> Result<Reply, AllocError>
-    ensures { IfOk result (λ r. r ≡ reply (success (spec.usage_reply inventory.now id rows.now))) }
+    ensures { IfOk result (λ r. r ≡ reply (success (spec.usage_reply epoch version id rows.now))) }
 {
-    let text = usage_text(alloc, inventory, id, rows)?;
+    let text = usage_text(alloc, epoch, version, id, rows)?;
     Ok(done(text))
 }
 
-/// Counts the rows of the pool `id`, and makes the reply. The problem is, in this order, `NoPool`,
-/// `NoVersion`, or `NoRule`.
+/// Counts the rows of the pool `id` on the newest version, and makes the reply. The problem is, in
+/// this order, `NoPool`, `NoVersion`, or `NoRule` where the newest lacks the pool's rule.
 pub fn answer(alloc: Global, id: u64, inventory: &Inventory) -> Result<Reply, Refusal>
     ensures { Answers result (spec.usage_answer id inventory.now) }
 {
+    let epoch = inventory.epoch();
+    let version = inventory.newest();
     let pool = inventory.pools().get(id).ok_or(Problem::NoPool)?;
-    let rows = rows_of(alloc, inventory, pool)?;
-    let written = usage_reply(alloc, inventory, pool.parts().id, rows.as_slice())?;
+    let placer = inventory.on_newest(pool)?;
+    let rows = usage_with(alloc, &placer)?;
+    let written = usage_reply(alloc, epoch, version, pool.id(), rows.as_slice())?;
     Ok(written)
 }

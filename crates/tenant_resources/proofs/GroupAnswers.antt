@@ -2,7 +2,10 @@
 use Rattle.std.proofs.Common.{◌≡◌, ◌∙◌, ◌==◌, ℕ, List, Some, Ok, Err, sym, ap}
 use Rattle.std.specs.Prelude.{find}
 use Rattle.serde_json.specs.Data.{Data}
+use Rattle.crush_hash.specs.Hash.{name_hash}
+use Rattle.crush_pool.specs.Groups.{mask_of, stable_mod}
 use Rattle.crush_pool.specs.Pools.{group_of}
+use Rattle.crush_pool.specs.declared.pool.PoolParts.{PoolParts}
 use Rattle.crush_pool.specs.declared.placing.Placement.{Placement}
 use Rattle.tenant_messages.specs.Refusals.{Answers, Gives, answer_with}
 use Rattle.tenant_messages.specs.Reply.{success}
@@ -28,6 +31,12 @@ group_placed id group inventory p placement body there given written =
     ap success written ∙ sym (ap (group_on inventory group) there ∙ ap (answer_with (group_reply inventory group)) given)
 
 -- ---- objects
+
+-- the group of a name's hash is that of the name
+pub group_of-hash : (parts own : PoolParts) (name : List ℕ) (hash group : ℕ) → group ≡ stable_mod hash parts.pg_num (mask_of parts.pg_num) → parts ≡ own → hash ≡ name_hash name
+    → group ≡ group_of own name
+group_of-hash parts own name hash group is same hashed =
+    is ∙ (ap (λ (p : PoolParts). stable_mod hash p.pg_num (mask_of p.pg_num)) same ∙ ap (λ h. stable_mod h own.pg_num (mask_of own.pg_num)) hashed)
 
 abbrev name_reply : List ℕ → Inventory → TenantPool → Placement → Data
 name_reply name inventory p = object_reply name inventory (group_of p.parts name)

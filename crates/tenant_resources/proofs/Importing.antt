@@ -1,14 +1,12 @@
 -- The import of a text.
-use Rattle.std.proofs.Common.{◌≡◌, ℕ, List, length, true, false, nat_le, is_some, Ok, Err, refl}
-use Rattle.std.specs.List.{list_all}
+use Rattle.std.proofs.Common.{◌≡◌, ℕ, List, length, true, false, nat_le, Ok, Err, refl}
 use Rattle.serde_json.specs.Data.{Data}
 use Rattle.crush_grammar.specs.declared.code.TextFault.{TextFault}
 use Rattle.crush_map.specs.Map.{Map}
-use Rattle.crush_pool.specs.Placements.{rule_numbered}
 use Rattle.crush_text.specs.Reading.{map_of_text}
 use Rattle.tenant_resources.specs.Maps.{imported, import_reply}
 use Rattle.tenant_state.specs.declared.limits.TheConstants.{VERSION_LIMIT}
-use Rattle.tenant_state.specs.State.{Inventory, NewVersion}
+use Rattle.tenant_state.specs.State.{Inventory, NewVersion, has_rules_of}
 use Rattle.tenant_messages.specs.declared.reply.Problem.TheVariants.{RuleInUse, MapRefused}
 use Rattle.tenant_messages.specs.declared.reply.SuccessStatus.TheVariants.{Created}
 
@@ -16,10 +14,10 @@ pub of_fault : (text : List ℕ) (inventory : Inventory) (f : TextFault) → nat
 of_fault text inventory f few is = rw (few, is) refl
 
 pub of_rule_in_use : (text : List ℕ) (inventory : Inventory) (m : Map) → nat_le VERSION_LIMIT (length inventory.versions) ≡ false → map_of_text text ≡ Ok m
-    → list_all (λ p. is_some (rule_numbered m p.parts.rule)) inventory.pools ≡ false → imported text inventory ≡ Err RuleInUse
+    → has_rules_of inventory.pools m ≡ false → imported text inventory ≡ Err RuleInUse
 of_rule_in_use text inventory m few is lacks = rw (few, is, lacks) refl
 
 pub of_map : (text : List ℕ) (inventory : Inventory) (m n : Map) (body : Data) → nat_le VERSION_LIMIT (length inventory.versions) ≡ false → map_of_text text ≡ Ok m
-    → list_all (λ p. is_some (rule_numbered m p.parts.rule)) inventory.pools ≡ true → n ≡ m → body ≡ import_reply inventory
+    → has_rules_of inventory.pools m ≡ true → n ≡ m → body ≡ import_reply inventory
     → imported text inventory ≡ Ok (record { made = NewVersion n; status = Created; body = body })
 of_map text inventory m n body few is has same written = rw (few, is, has, same, written) refl

@@ -1,10 +1,6 @@
--- Tests of all or of any elements of a list, where the elements are made of those of another.
+-- Tests of any elements of a list, where the elements are made of those of another.
 use Rattle.std.proofs.Common.{◌≡◌, ◌∙◌, ◌||◌, List, [], ◌∷◌, map, Bool, refl, sym, ap}
-use Rattle.std.specs.List.{list_all, list_any}
-use Rattle.std.proofs.lemmas.List.Folds.{list_all-map}
-
-pub all-of : {X Y : Type 0} (test : X → Bool) (of : Y → X) (ys : List Y) (xs : List X) → map of ys ≡ xs → list_all test xs ≡ list_all (λ y. test (of y)) ys
-all-of test of ys xs are = ap (list_all test) (sym are) ∙ list_all-map test of ys
+use Rattle.std.specs.List.{list_any}
 
 pub any-map : {X Y : Type 0} (test : X → Bool) (of : Y → X) (ys : List Y) → list_any test (map of ys) ≡ list_any (λ y. test (of y)) ys
 any-map test of [] = refl

@@ -21,7 +21,7 @@ use serde_json::{Value, json};
 use std::alloc::{AllocError, Global};
 use tenant_messages::{
     Problem, Refusal, SuccessStatus, has_keys, natural, optional_boolean, optional_natural,
-    read_value, request_number,
+    request_number,
 };
 use tenant_state::{Devices, Inventory, Made, Version};
 
@@ -73,8 +73,8 @@ fn changes(alloc: Global, values: &[Value]) -> Result<Vec<DeviceChange>, Refusal
 }
 
 /// Reads the request number and the changes that a body's value says. The problem is `BadRequest`,
-/// exactly where the value doesn't have the form of the body.
-fn changes_in(alloc: Global, value: &Value) -> Result<(Text, Listed<DeviceChange>), Refusal>
+/// exactly where the value doesn't have the form (`IsDevicesBody`).
+pub fn read_changes(alloc: Global, value: &Value) -> Result<(Text, Listed<DeviceChange>), Refusal>
     ensures { Reads (λ asked. asked) result (spec.changes_of (view value.now)) }
 {
     if !has_keys(value, 2) {
@@ -91,14 +91,6 @@ fn changes_in(alloc: Global, value: &Value) -> Result<(Text, Listed<DeviceChange
     } else {
         Err(Refusal::Problem(Problem::BadRequest))
     }
-}
-
-/// Reads the request number and the changes that a body asks for. The problem is `BadRequest`,
-/// exactly where the body doesn't have the form (`IsDevicesBody`).
-pub fn read_changes(alloc: Global, body: &str) -> Result<(Text, Listed<DeviceChange>), Refusal>
-    ensures { Reads (λ asked. asked) result (spec.devices_request_of body.now) }
-{
-    changes_in(alloc, &read_value(alloc, body)?)
 }
 
 // ---- changing the states

@@ -21,7 +21,7 @@ use crush_pool::{Exceptions, Pair, are_pairs};
 use serde_json::{Value, json};
 use std::alloc::{AllocError, Global};
 use tenant_messages::{
-    Problem, Refusal, Reply, SuccessStatus, has_keys, natural, read_value, request_number, success,
+    Problem, Refusal, Reply, SuccessStatus, has_keys, natural, request_number, success,
 };
 use tenant_state::{Inventory, Made, TenantPool, Version};
 
@@ -57,8 +57,8 @@ fn pairs(alloc: Global, values: &[Value]) -> Result<Vec<Pair>, Refusal>
 }
 
 /// Reads the request number, the id of the pool and the pairs that a body's value says. The problem
-/// is `BadRequest`, exactly where the value doesn't have the form of the body.
-fn exceptions_in(alloc: Global, value: &Value) -> Result<(Text, (u32, Listed<Pair>)), Refusal>
+/// is `BadRequest`, exactly where the value doesn't have the form (`IsExceptionsBody`).
+pub fn read_exceptions(alloc: Global, value: &Value) -> Result<(Text, (u32, Listed<Pair>)), Refusal>
     ensures { Reads (λ asked. asked) result (spec.exceptions_of (view value.now)) }
 {
     if !has_keys(value, 3) {
@@ -76,14 +76,6 @@ fn exceptions_in(alloc: Global, value: &Value) -> Result<(Text, (u32, Listed<Pai
     } else {
         Err(Refusal::Problem(Problem::BadRequest))
     }
-}
-
-/// Reads the request number, the id of the pool and the pairs that a body asks for. The problem is
-/// `BadRequest`, exactly where the body doesn't have the form (`IsExceptionsBody`).
-pub fn read_exceptions(alloc: Global, body: &str) -> Result<(Text, (u32, Listed<Pair>)), Refusal>
-    ensures { Reads (λ asked. asked) result (spec.exceptions_request_of body.now) }
-{
-    exceptions_in(alloc, &read_value(alloc, body)?)
 }
 
 // ---- setting the pairs of a pool

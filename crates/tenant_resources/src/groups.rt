@@ -1,7 +1,7 @@
 //! Groups of pools: at `/t/{t}/pools/{p}/groups/{g}` GET reads where a group lies, and at
 //! `/t/{t}/pools/{p}/locate` POST asks where an object lies.
 
-ghost use Rattle.std.specs.Prelude.{◌≡◌, ◌<◌, ◌^◌, ◌++◌, true, IfOk, OnOk, length, string_bytes};
+ghost use Rattle.std.specs.Prelude.{◌≡◌, ◌<◌, ◌++◌, true, IfOk, OnOk, string_bytes};
 ghost use Rattle.serde_json.specs.View.{view};
 ghost use Rattle.serde_json.specs.Written.{compact_text, members_text};
 ghost use Rattle.tenant_messages.specs.Reading.{Reads};
@@ -20,45 +20,50 @@ use serde_json::Value;
 use std::alloc::{AllocError, Global};
 use std::marker::Model;
 use tenant_messages::{
-    Problem, Refusal, Reply, done, has_keys, push_number, push_slot, push_slots, read_value, text,
+    Problem, Refusal, Reply, done, has_keys, push_number, push_slot, push_slots, text,
 };
 use tenant_state::{Inventory, TenantPool};
 
-/// The name of an object: a text of at most `OBJECT_NAME_LIMIT` bytes.
+/// The name of an object: a text of at most `OBJECT_NAME_LIMIT` bytes. Contracts see the name; code
+/// reads its hash, which is made once.
 #[derive(Drop)]
 pub struct ObjectName {
     name: Text,
+    hash: u32,
 }
 
 impl Model for ObjectName {
-    ghost use Rattle.std.specs.Prelude.{List, ℕ, ◌≤◌, length};
+    ghost use Rattle.std.specs.Prelude.{List, ℕ, ◌≡◌, ◌≤◌, length};
+    ghost use Rattle.crush_hash.specs.Hash.{name_hash};
     ghost use Rattle.tenant_resources.specs.declared.limits.TheConstants.{OBJECT_NAME_LIMIT};
 
     ghost Value = { List ℕ };
 
     ghost view = { λ a. a.name };
 
-    ghost invariant = { λ a. length a.name ≤ OBJECT_NAME_LIMIT };
+    ghost invariant = { λ a. record {
+      few : length a.name ≤ OBJECT_NAME_LIMIT;
+      hashed : a.hash ≡ name_hash a.name;
+    } };
 }
 
 impl ObjectName {
-    ghost use Rattle.std.specs.Prelude.{◌≡◌, ◌≤◌, length};
-    ghost use Rattle.tenant_resources.specs.declared.limits.TheConstants.{OBJECT_NAME_LIMIT};
+    ghost use Rattle.std.specs.Prelude.{◌≡◌};
+    ghost use Rattle.crush_hash.specs.Hash.{name_hash};
 
-    /// Returns the name.
-    pub fn as_str(&self) -> &str
-        ensures same { result.now ≡ self.now }
-        ensures few { length self.now ≤ OBJECT_NAME_LIMIT }
+    /// Returns the hash of the name.
+    pub fn hash(&self) -> u32
+        ensures { result ≡ name_hash self.now }
     {
-        self.name.as_str()
+        self.hash
     }
 }
 
 // ---- the body that asks for an object
 
-/// Reads the name that a body's value says. The problem is `BadRequest`, exactly where the value
-/// doesn't have the form of the body.
-fn name_in(alloc: Global, value: &Value) -> Result<ObjectName, Refusal>
+/// Reads the name of the object that a body's value says. The problem is `BadRequest`, exactly
+/// where the value doesn't have the form (`IsLocateBody`).
+pub fn read_name(alloc: Global, value: &Value) -> Result<ObjectName, Refusal>
     ensures { Reads (λ name. name) result (spec.name_of (view value.now)) }
 {
     if !has_keys(value, 1) {
@@ -68,16 +73,9 @@ fn name_in(alloc: Global, value: &Value) -> Result<ObjectName, Refusal>
     if name.len() > OBJECT_NAME_LIMIT {
         return Err(Refusal::Problem(Problem::BadRequest));
     }
+    let hash = name_hash(name.as_bytes());
     let name = Text::copy(alloc, name)?;
-    Ok(ObjectName { name })
-}
-
-/// Reads the name of the object that a body asks for. The problem is `BadRequest`, exactly where
-/// the body doesn't have the form (`IsLocateBody`).
-pub fn read_name(alloc: Global, body: &str) -> Result<ObjectName, Refusal>
-    ensures { Reads (λ name. name) result (spec.locate_request_of body.now) }
-{
-    name_in(alloc, &read_value(alloc, body)?)
+    Ok(ObjectName { name, hash })
 }
 
 // ---- placing a group
@@ -142,15 +140,14 @@ fn group_text(
 #[tactic(auto, using(crate::proofs::GroupTexts::object_by_pieces))]
 fn object_text(
     alloc: Global,
-    name: &str,
+    name: &ObjectName,
     inventory: &Inventory,
     group: u32,
     placement: &Placement,
 ) -> Result<String, AllocError>
-    requires { length name.now < 2 ^ 32 }
     ensures { IfOk result (λ text. string_bytes text ≡ compact_text (spec.object_reply name.now inventory.now group placement.now)) }
 {
-    let hash = name_hash(name.as_bytes());
+    let hash = name.hash();
     let mut text = String::with_capacity(alloc, REPLY_ROOM)?;
     push_number(&mut text, "{\"epoch\":", inventory.epoch())?;
     push_number(&mut text, ",\"group\":", u64::from(group))?;
@@ -184,7 +181,7 @@ pub fn placed_object(
 ) -> Result<Reply, AllocError>
     ensures { IfOk result (λ r. r ≡ replies.reply (replies.success (spec.object_reply name.now inventory.now group placement.now))) }
 {
-    let text = object_text(alloc, name.as_str(), inventory, group, placement)?;
+    let text = object_text(alloc, name, inventory, group, placement)?;
     Ok(done(text))
 }
 
@@ -218,7 +215,7 @@ pub fn object_answer(
     ensures { Answers result (spec.object_answer id name.now inventory.now) }
 {
     let pool = inventory.pools().get(id).ok_or(Problem::NoPool)?;
-    let group = pool.pool().group_of(name.as_str().as_bytes());
+    let group = pool.pool().group_of_hash(name.hash());
     let placement = placed(alloc, inventory, pool, group)?;
     Ok(placed_object(alloc, name, inventory, group, &placement)?)
 }

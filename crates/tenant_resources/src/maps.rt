@@ -1,9 +1,7 @@
 //! Maps, at `/t/{t}/maps`: POST adds a version of the tenant's map, from a text. At
 //! `/t/{t}/maps/{v}` GET reads the version v.
 
-ghost use Rattle.std.specs.Prelude.{◌≡◌, ◌<◌, ◌^◌, false, is_some, IfOk, length};
-ghost use Rattle.std.specs.List.{list_all};
-ghost use Rattle.crush_pool.specs.Placements.{rule_numbered};
+ghost use Rattle.std.specs.Prelude.{◌≡◌, ◌<◌, ◌^◌, false, IfOk, length};
 ghost use Rattle.serde_json.specs.View.{view};
 ghost use Rattle.serde_json.specs.Written.{has_float};
 ghost use Rattle.tenant_resources.specs.Maps as spec;
@@ -12,23 +10,21 @@ ghost use Rattle.tenant_messages.specs.Reading.{Reads};
 ghost use Rattle.tenant_messages.specs.Refusals.{Answers, Gives};
 
 use crate::accepted::Accepted;
-use crush_map::{CrushMap, Text};
-use crush_pool::rule_with_id;
+use crush_map::Text;
 use crush_text::{read_map, texts_are_read_as_they_say};
 use serde_json::{Value, json};
 use std::alloc::{AllocError, Global};
-use std::rc::Rc;
 use tenant_messages::{
-    Problem, Refusal, Reply, SuccessStatus, has_keys, read_value, request_number, success, text,
+    Problem, Refusal, Reply, SuccessStatus, has_keys, request_number, success, text,
 };
 use tenant_state::limits::VERSION_LIMIT;
-use tenant_state::{Inventory, Made, Pools, TenantPool, Version};
+use tenant_state::{Inventory, Made, Version};
 
 // ---- the body of an import
 
-/// Reads the request number and the text that a body's value says. The problem is `BadRequest`,
-/// exactly where the value doesn't have the form of the body.
-fn import_in(alloc: Global, value: &Value) -> Result<(Text, Text), Refusal>
+/// Reads the request number and the text of the import that a body's value says. The problem is
+/// `BadRequest`, exactly where the value doesn't have the form (`IsImportBody`).
+pub fn read_import(alloc: Global, value: &Value) -> Result<(Text, Text), Refusal>
     ensures { Reads (λ asked. asked) result (spec.import_of (view value.now)) }
 {
     if !has_keys(value, 2) {
@@ -37,14 +33,6 @@ fn import_in(alloc: Global, value: &Value) -> Result<(Text, Text), Refusal>
     let number = request_number(value).ok_or(Problem::BadRequest)?;
     let written = text(value, "text").ok_or(Problem::BadRequest)?;
     Ok((Text::copy(alloc, number)?, Text::copy(alloc, written)?))
-}
-
-/// Reads the request number and the text of the import that a body asks for. The problem is
-/// `BadRequest`, exactly where the body doesn't have the form (`IsImportBody`).
-pub fn read_import(alloc: Global, body: &str) -> Result<(Text, Text), Refusal>
-    ensures { Reads (λ asked. asked) result (spec.import_request_of body.now) }
-{
-    import_in(alloc, &read_value(alloc, body)?)
 }
 
 // ---- importing a text
@@ -56,31 +44,6 @@ fn import_reply(alloc: Global, inventory: &Inventory) -> Result<Value, AllocErro
     ensures { IfOk result (λ v. view v ≡ spec.import_reply inventory.now) }
 {
     json!(in alloc; {"epoch": inventory.epoch() + 1, "version": inventory.newest() + 1})
-}
-
-/// Makes the shared version with this map. `Err(AllocError)`: an allocation failed; the map is
-/// dropped.
-fn shared_version(alloc: Global, map: CrushMap) -> Result<Rc<Version>, AllocError>
-    ensures { IfOk result (λ version. version.value ≡ map) }
-{
-    let version = Version::build(alloc, map)?;
-    Ok(Rc::new(alloc, version)?)
-}
-
-/// Returns whether a map has the rule of each pool of `pools`.
-fn has_each_rule(map: &CrushMap, pools: &[Rc<TenantPool>]) -> bool
-    ensures { result ≡ list_all (λ p. is_some (rule_numbered map.now p.value.parts.rule)) pools.now }
-{
-    pools
-        .iter()
-        .all(|pool| rule_with_id(map, pool.parts().rule).is_some())
-}
-
-/// Returns whether a map has the rule of each pool of a tenant.
-fn has_rules_of(map: &CrushMap, pools: &Pools) -> bool
-    ensures { result ≡ list_all (λ p. is_some (rule_numbered map.now p.parts.rule)) pools.now }
-{
-    has_each_rule(map, pools.as_slice())
 }
 
 /// Accepts a map's text as a new version, with the reply. The problem is, in this order,
@@ -98,10 +61,10 @@ pub fn import(alloc: Global, text: &str, inventory: &Inventory) -> Result<Accept
     match read_map(alloc, text.as_bytes())? {
         Err(fault) => Err(Refusal::Problem(Problem::MapRefused(fault))),
         Ok(map) => {
-            if !has_rules_of(&map, inventory.pools()) {
+            if !inventory.has_rules_in(&map) {
                 return Err(Refusal::Problem(Problem::RuleInUse));
             }
-            let version = shared_version(alloc, map)?;
+            let version = Version::shared(alloc, map)?;
             Ok(Accepted {
                 made: Made::Version(version),
                 status: SuccessStatus::Created,

@@ -20,7 +20,7 @@ use serde_json::{Value, json};
 use std::alloc::{AllocError, Global};
 use std::rc::Rc;
 use tenant_messages::{
-    Problem, Refusal, SuccessStatus, boolean, has_keys, natural, read_value, request_number, text,
+    Problem, Refusal, SuccessStatus, boolean, has_keys, natural, request_number, text,
 };
 use tenant_state::limits::POOL_LIMIT;
 use tenant_state::{Inventory, Made, Pools, TenantPool};
@@ -87,8 +87,8 @@ fn parts(alloc: Global, value: &Value) -> Result<(Text, PoolParts), Refusal>
 }
 
 /// Reads the request number and the pool that a body's value says. The problem is `BadRequest`,
-/// exactly where the value doesn't have the form of the body.
-fn pool_in(alloc: Global, value: &Value) -> Result<(Text, Pool), Refusal>
+/// exactly where the value doesn't have the form (`IsPoolBody`).
+pub fn read_pool(alloc: Global, value: &Value) -> Result<(Text, Pool), Refusal>
     ensures { Reads (λ asked. asked) result (spec.pool_of (view value.now)) }
 {
     if !has_keys(value, 9) {
@@ -101,19 +101,11 @@ fn pool_in(alloc: Global, value: &Value) -> Result<(Text, Pool), Refusal>
     }
 }
 
-/// Reads the request number and the pool that a body asks for. The problem is `BadRequest`, exactly
-/// where the body doesn't have the form (`IsPoolBody`).
-pub fn read_pool(alloc: Global, body: &str) -> Result<(Text, Pool), Refusal>
-    ensures { Reads (λ asked. asked) result (spec.pool_request_of body.now) }
-{
-    pool_in(alloc, &read_value(alloc, body)?)
-}
-
 // ---- the body of a removal
 
-/// Reads the request number and the id that a body's value says. The problem is `BadRequest`,
-/// exactly where the value doesn't have the form of the body.
-fn removal_in(alloc: Global, value: &Value) -> Result<(Text, u32), Refusal>
+/// Reads the request number and the id of the pool to remove that a body's value says. The problem
+/// is `BadRequest`, exactly where the value doesn't have the form (`IsRemovalBody`).
+pub fn read_removal(alloc: Global, value: &Value) -> Result<(Text, u32), Refusal>
     ensures { Reads (λ asked. asked) result (spec.removal_of (view value.now)) }
 {
     if !has_keys(value, 2) {
@@ -125,14 +117,6 @@ fn removal_in(alloc: Global, value: &Value) -> Result<(Text, u32), Refusal>
         return Err(Refusal::Problem(Problem::BadRequest));
     }
     Ok((Text::copy(alloc, number)?, id))
-}
-
-/// Reads the request number and the id of the pool that a body asks to remove. The problem is
-/// `BadRequest`, exactly where the body doesn't have the form (`IsRemovalBody`).
-pub fn read_removal(alloc: Global, body: &str) -> Result<(Text, u32), Refusal>
-    ensures { Reads (λ asked. asked) result (spec.removal_request_of body.now) }
-{
-    removal_in(alloc, &read_value(alloc, body)?)
 }
 
 // ---- creating a pool

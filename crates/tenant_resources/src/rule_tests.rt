@@ -6,7 +6,6 @@ ghost use Rattle.crush_bucket.specs.Tables.{tables_of};
 ghost use Rattle.crush_choose.specs.Rules.{CanRun, rule_answer};
 ghost use Rattle.crush_choose.specs.Trace.{rule_trace};
 ghost use Rattle.serde_json.specs.View.{view};
-ghost use Rattle.tenant_messages.specs.Reading.{Reads};
 ghost use Rattle.tenant_messages.specs.Refusals.{Answers};
 ghost use Rattle.tenant_resources.specs.RuleTests as spec;
 
@@ -22,8 +21,7 @@ use serde_json::{Value, json};
 use std::alloc::{AllocError, Global};
 use std::marker::Model;
 use tenant_messages::{
-    Problem, Refusal, Reply, has_keys, ids_json, natural, optional_natural, read_value, slots_json,
-    success,
+    Problem, Refusal, Reply, has_keys, ids_json, natural, optional_natural, slots_json, success,
 };
 use tenant_state::{Inventory, Version};
 
@@ -54,8 +52,8 @@ impl Model for RuleTest {
 // ---- the body
 
 /// Reads the test that a body's value says, or returns `None` where the value doesn't have the form
-/// of the body.
-fn test(value: &Value) -> Option<RuleTest>
+/// (`IsTestBody`).
+pub fn read_test(value: &Value) -> Option<RuleTest>
     ensures { result ≡ spec.test_of (view value.now) }
 {
     let keys = if value.get("version").is_some() { 4 } else { 3 };
@@ -75,15 +73,6 @@ fn test(value: &Value) -> Option<RuleTest>
         x,
         version,
     })
-}
-
-/// Reads the test that a body asks for. The problem is `BadRequest`, exactly where the body doesn't
-/// have the form (`IsTestBody`).
-pub fn read_test(alloc: Global, body: &str) -> Result<RuleTest, Refusal>
-    ensures { Reads (λ t. t) result (spec.test_request_of body.now) }
-{
-    let value = read_value(alloc, body)?;
-    Ok(test(&value).ok_or(Problem::BadRequest)?)
 }
 
 // ---- the answer

@@ -6,9 +6,8 @@ use mir.Syntax.{w64}
 use Rattle.sqlite_trees.specs.Tree.{Trees}
 use Rattle.tenant_state.specs.State.{Change, Made}
 use Rattle.tenant_state.specs.declared.receipts.Receipt as state
-use Rattle.tenant_tables.specs.Change.{Accepts, IsNumber}
+use Rattle.tenant_tables.specs.Change.{IsNumber}
 use Rattle.table_schema.specs.Values.{receipt_row}
-use Rattle.table_schema.specs.Holds.{TenantRows}
 use Rattle.table_schema.specs.declared.values.Receipt.{Receipt}
 use Rattle.tenant_rows.specs.Commits.{HasPoolsFor, rows_with_made}
 use Rattle.tenant_rows.specs.Rows.{row_of_receipt}
@@ -24,13 +23,6 @@ number_of db id fits is = subst (IsNumber db) (sym (word_is id fits)) is
 
 pub pools_of : (db : Trees) (id : ℤ) (made : Made) → SFits w64 id → HasPoolsFor db id made → HasPoolsFor db (word id) made
 pools_of db id made fits has = subst (λ n. HasPoolsFor db n made) (sym (word_is id fits)) has
-
--- what follows of an accepted write, with the words of the numbers, follows with the numbers
-pub accepted : (F : (Trees → Type 0) → Type 0) (id epoch : ℤ) (receipt : Receipt) (old : Trees) (made write : TenantRows → TenantRows) → SFits w64 id → SFits w64 epoch → made ≡ write
-    → F (Accepts (word id) (word epoch) receipt made old) → F (Accepts id epoch receipt write old)
-accepted F id epoch receipt old made write fits-id fits-epoch is holds =
-    subst (λ w. F (Accepts id epoch receipt w old)) is
-    (subst (λ n. F (Accepts id n receipt made old)) (word_is epoch fits-epoch) (subst (λ n. F (Accepts n (word epoch) receipt made old)) (word_is id fits-id) holds))
 
 pub made_is : (number : ℤ) (a b : Change) → SFits w64 number → a ≡ b → rows_with_made (word number) a.made ≡ rows_with_made number b.made
 made_is number a b fits same = ap (λ n. rows_with_made n a.made) (word_is number fits) ∙ ap (λ (x : Change). rows_with_made number x.made) same

@@ -1,27 +1,23 @@
 -- Tests of each part, and how many there are.
-use Rattle.std.proofs.Common.{◌≡◌, ◌==◌, ◌<◌, ◌||◌, ◌&&◌, ℕ, List, [], ◌∷◌, length, map, Bool, false, Option, Some, None, is_some, option_and_then, arith, refl, sym, ap, ◌∙◌}
+use Rattle.std.proofs.Common.{◌≡◌, ◌==◌, ◌<◌, ◌||◌, ℕ, List, [], ◌∷◌, length, map, Bool, false, Option, Some, None, is_some, option_and_then, arith, refl, sym, ap, ◌∙◌}
 use Rattle.std.specs.List.{list_all, list_any}
 use Rattle.std.proofs.lemmas.Bool.Decides.{nat_tests}
 use Rattle.std.proofs.lemmas.List.{length-map}
 use Rattle.sqlite_value.specs.Order.{Row}
 use Rattle.crush_map.specs.Map.{Map}
 use Rattle.crush_pool.specs.Placements.{rule_numbered}
-use Rattle.tenant_state.specs.State.{Inventory, TenantPool, have_rules, newest, version}
+use Rattle.tenant_state.specs.State.{Inventory, TenantPool, has_rules_of, have_rules, newest, version}
 
 pub any_map : {X Y : Type 0} (test : X → Bool) (of : Y → X) (ys : List Y) → list_any test (map of ys) ≡ list_any (λ y. test (of y)) ys
 any_map test of [] = refl
 any_map test of (y ∷ ys) = ap (λ b. test (of y) || b) (any_map test of ys)
-
-pub all_map : {X Y : Type 0} (test : X → Bool) (of : Y → X) (ys : List Y) → list_all test (map of ys) ≡ list_all (λ y. test (of y)) ys
-all_map test of [] = refl
-all_map test of (y ∷ ys) = ap (λ b. test (of y) && b) (all_map test of ys)
 
 -- ---- the rules of pools in the newest version
 
 rules_in : List TenantPool → Option Map → Bool
 rules_in pools found = list_all (λ p. is_some (option_and_then (λ m. rule_numbered m p.parts.rule) found)) pools
 
-pub rules_on_some : (i : Inventory) (m : Map) → Some m ≡ version (newest i) i → list_all (λ p. is_some (rule_numbered m p.parts.rule)) i.pools ≡ have_rules i
+pub rules_on_some : (i : Inventory) (m : Map) → Some m ≡ version (newest i) i → has_rules_of i.pools m ≡ have_rules i
 unfolding rules_in
 rules_on_some i m is = ap (rules_in i.pools) is
 

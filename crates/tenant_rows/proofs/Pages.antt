@@ -1,5 +1,5 @@
 -- What a page of receipts says of the rows that it begins.
-use Rattle.std.proofs.Common.{◌≡◌, inl, inr, ◌↔◌, ℕ, pos, ◌+◌, ◌<◌, ◌≤◌, ℤ, List, [], ◌∷◌, ◌++◌, map, filter, length, get_or, string_bytes, Result, Err, Bool, true, false, nat_le, ◌&&◌, Option, Some, None, Ordering, Less, Equal, Greater, is_gt, IsPermutation, arith, refl, sym, ap, subst, ◌∙◌, length-append}
+use Rattle.std.proofs.Common.{◌≡◌, inl, inr, ◌↔◌, ℕ, pos, ◌+◌, ◌<◌, ◌≤◌, List, [], ◌∷◌, ◌++◌, map, filter, length, get_or, string_bytes, Result, Err, Bool, true, false, nat_le, ◌&&◌, Option, Some, None, Ordering, Less, Equal, Greater, is_gt, IsPermutation, arith, refl, sym, ap, subst, ◌∙◌, length-append}
 use Rattle.std.specs.List.{AllByRecursion, list_all}
 use Rattle.std.specs.Ordering.{ordering_reverse}
 use Rattle.std.proofs.lemmas.List.{map-append, map_push, length-map, append-nil}
@@ -29,6 +29,7 @@ use Rattle.table_reads.specs.Found.{IsRising, IsReceiptRow, Lists, Begins, rows_
 use Rattle.table_reads.specs.declared.rows.ReceiptRow.{ReceiptRow}
 use Rattle.store_faults.specs.declared.StoreFault.{StoreFault}
 use Rattle.table_reads.proofs.Rising.{below_text, below_text_back}
+use Rattle.table_reads.specs.declared.find.Tenant.{Tenant}
 use Rattle.tenant_rows.specs.Changes.{HasReceipts}
 use Rattle.tenant_rows.specs.Rows.{row_of_receipt}
 use Rattle.tenant_rows.specs.Pages.{IsOfReceipt, AreReceipts, IsTail, Leaves}
@@ -310,8 +311,8 @@ chained all rows later count left (Some rest) same leaves = (λ h. leaves.0 (sam
 -- ---- the receipts of a tenant
 
 -- they are as many as the epoch says
-pub receipts_are : (db : Trees) (id epoch : ℤ) (count : ℕ) (receipts : Receipts) → epoch ≡ pos count → HasReceipts db id epoch receipts → AreReceipts count (of_tenant receipts_table id db)
-receipts_are db id epoch count receipts number h =
+pub receipts_are : (db : Trees) (tenant : Tenant) (count : ℕ) (receipts : Receipts) → tenant.epoch ≡ pos count → HasReceipts db tenant receipts → AreReceipts count (of_tenant receipts_table tenant.id db)
+receipts_are db tenant count receipts number h =
     record { receipts = receipts; number = same (length receipts) count (sym h.epoch_is ∙ number); ranges = h.ranges; order = h.order; same = h.rows }
   where
     same : (m n : ℕ) → pos m ≡ pos n → m ≡ n

@@ -24,8 +24,8 @@ use Rattle.table_schema.specs.Layout.{pools_table}
 use Rattle.table_schema.specs.Values.{exception_row, pool_row}
 use Rattle.table_schema.specs.declared.values.Exception.{Exception}
 use Rattle.table_schema.specs.declared.values.Pool.{Pool}
-use Rattle.table_schema.specs.declared.values.Receipt.{Receipt}
 use Rattle.tenant_tables.specs.Change.{Accepts, with_exceptions, with_receipt, without_key}
+use Rattle.tenant_tables.specs.declared.commit.Accepted.{Accepted}
 use Rattle.tenant_rows.proofs.Orders.{are_pools, one_order, pools_rise}
 use Rattle.tenant_rows.proofs.Keyed.{at_least}
 use Rattle.tenant_rows.proofs.Reading.{first}
@@ -64,14 +64,14 @@ module _ (old : Trees) (id : ℤ) (pool : ℕ) (pairs : List Pair) (made : HasPo
       none it.0 (subst (λ l. Has l it.0) (sym are_rows) it.1) it.2
 
   -- what is written in place of it is what is made
-  pub paired : (epoch : ℤ) (receipt : Receipt) (new : Trees) (row : Row) (values : Pool) (es : List Exception) → Has list row → column row 0 ≡ Int (pos pool) → values.id ≡ pos pool
-      → pool_row values ≡ take 8 row ++ Int (pos (length pairs)) ∷ [] → map exception_row es ≡ rows_of_pairs pool 0 pairs → Accepts id epoch receipt (with_exceptions values es) old new → Accepts id epoch receipt (with_new_pairs pool pairs) old new
-  paired epoch receipt new row values es has key number is are accepts name rows e held at raised =
+  pub paired : (a : Accepted) → a.id ≡ id → (new : Trees) (row : Row) (values : Pool) (es : List Exception) → Has list row → column row 0 ≡ Int (pos pool) → values.id ≡ pos pool
+      → pool_row values ≡ take 8 row ++ Int (pos (length pairs)) ∷ [] → map exception_row es ≡ rows_of_pairs pool 0 pairs → Accepts a (with_exceptions values es) old new → Accepts a (with_new_pairs pool pairs) old new
+  paired a own new row values es has key number is are accepts name rows e held at raised =
       let turn = accepts name rows e held at raised in
       record { own = turned turn.own; others = turn.others }
     where
       same : IsPermutation rows.pools (map row_of_pool made.i.pools)
-      same = IsPermutation-trans _ _ _ (IsPermutation-sym _ _ (subst (λ n. IsPermutation (of_tenant pools_table n old) rows.pools) at held.pools)) made.rows
+      same = IsPermutation-trans _ _ _ (IsPermutation-sym _ _ (subst (λ n. IsPermutation (of_tenant pools_table n old) rows.pools) (at ∙ own) held.pools)) made.rows
 
       pools_same : IsPermutation (pool_row values ∷ without_key values.id rows.pools) (map (with_count (pos pool) (pos (length pairs))) rows.pools)
       pools_same =
@@ -88,7 +88,7 @@ module _ (old : Trees) (id : ℤ) (pool : ℕ) (pairs : List Pair) (made : HasPo
           subst (IsPermutation (fold (λ earlier x. exception_row x ∷ earlier) (without_key values.id rows.exceptions) es)) (ap (λ l. l ++ without_key values.id rows.exceptions) are ∙ ap (λ n. rows_of_pairs pool 0 pairs ++ without_key n rows.exceptions) number)
           (rows_added es (without_key values.id rows.exceptions))
 
-      turned : Holds new name (record (with_receipt receipt (with_exceptions values es rows)) { epoch = e }) → Holds new name (record (with_receipt receipt (with_new_pairs pool pairs rows)) { epoch = e })
+      turned : Holds new name (record (with_receipt a.receipt (with_exceptions values es rows)) { epoch = e }) → Holds new name (record (with_receipt a.receipt (with_new_pairs pool pairs rows)) { epoch = e })
       turned h = record {
         id = h.id;
         tenant = h.tenant;

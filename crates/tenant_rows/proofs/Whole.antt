@@ -1,6 +1,6 @@
 -- A name stands for a state where what the state has and its receipts are the tenant's, and then
 -- alone.
-use Rattle.std.proofs.Common.{◌≡◌, ◌≤◌, ℕ, ℤ, pos, List, length, map, true, Option, Some, None, sym, ap, ◌∙◌, subst, IsPermutation}
+use Rattle.std.proofs.Common.{◌≡◌, ◌≤◌, ℕ, ℤ, pos, List, length, map, true, Some, sym, ap, ◌∙◌, subst, IsPermutation}
 use Rattle.std.specs.List.{list_all}
 use Rattle.sqlite_value.specs.declared.value.Value.TheVariants.{Int}
 use Rattle.sqlite_value.specs.Order.{column}
@@ -22,7 +22,7 @@ use Rattle.table_schema.specs.declared.values.State.{State}
 use Rattle.tenant_rows.specs.Changes.{HasRows, HasReceipts}
 use Rattle.tenant_rows.specs.Lists.{IsOfState, AreRowsOf, AreRowsOfState}
 use Rattle.tenant_rows.specs.Rows.{rows_of_versions, row_of_state, row_of_pool, rows_of_exceptions, row_of_receipt, StandsFor}
-use Rattle.tenant_rows.proofs.OneState.{one_row, some_row, int_is}
+use Rattle.tenant_rows.proofs.OneState.{one_row, int_is}
 
 -- ---- states and what they have
 
@@ -73,15 +73,20 @@ are_rows_of_state i receipts epoch versions states pools exceptions rows count a
 
 -- ---- from the parts to the state
 
+-- the tenant that was found, with its epoch
+pub is_tenant : (db : Trees) (name : List ℕ) (tenant : Tenant) (e : ℕ) → Names db name (Some tenant) → tenant.epoch ≡ pos e → IsTenant db name tenant.id e
+is_tenant db name tenant e named is =
+    record { row = named.0; one = named.1; number = named.2; epoch_is = named.3 ∙ ap Int is }
+
 -- what a tenant has and its receipts are a state
-pub stands : (db : Trees) (name : List ℕ) (id : ℤ) (i : Inventory) (receipts : Receipts) → IsTenant db name id i.epoch → IsOfState i → HasRows db id (pos i.epoch) i → HasReceipts db id (pos i.epoch) receipts
+pub stands_for_found : (db : Trees) (name : List ℕ) (tenant : Tenant) (i : Inventory) (receipts : Receipts) → Names db name (Some tenant) → IsOfState i → HasRows db tenant i → HasReceipts db tenant receipts
     → StandsFor db name (Some (with_receipts i receipts))
-stands db name id i receipts tenant is rows those =
-    let count = nat_is i.epoch (length receipts) those.epoch_is in (
+stands_for_found db name tenant i receipts named is rows those =
+    let count = nat_is i.epoch (length receipts) (sym rows.epoch_is ∙ those.epoch_is) in (
       is_state_of i receipts is count those.ranges those.order,
       record {
-        id = id;
-        tenant = subst (IsTenant db name id) count tenant;
+        id = tenant.id;
+        tenant = is_tenant db name tenant (length receipts) named those.epoch_is;
         maps = rows.versions;
         devices = rows.devices;
         pools = rows.pools;
@@ -89,18 +94,6 @@ stands db name id i receipts tenant is rows those =
         exceptions = rows.exceptions;
       },
     )
-
--- the tenant that was found, with its epoch
-pub is_tenant : (db : Trees) (name : List ℕ) (tenant : Tenant) (e : ℕ) → Names db name (Some tenant) → tenant.epoch ≡ pos e → IsTenant db name tenant.id e
-is_tenant db name tenant e named is =
-    record { row = named.0; one = named.1; number = named.2; epoch_is = named.3 ∙ ap Int is }
-
--- the same of the tenant that was found
-pub stands_for_found : (db : Trees) (name : List ℕ) (tenant : Tenant) (i : Inventory) (receipts : Receipts) → Names db name (Some tenant) → IsOfState i → HasRows db tenant.id tenant.epoch i
-    → HasReceipts db tenant.id tenant.epoch receipts → StandsFor db name (Some (with_receipts i receipts))
-stands_for_found db name tenant i receipts named is rows those =
-    stands db name tenant.id i receipts (is_tenant db name tenant i.epoch named rows.epoch_is) is
-    (subst (λ e. HasRows db tenant.id e i) rows.epoch_is rows) (subst (λ e. HasReceipts db tenant.id e receipts) rows.epoch_is those)
 
 -- ---- from the state to the parts
 
@@ -115,7 +108,7 @@ same_epoch db name tenant id e named is =
     let row = one_row is.row named.0 (sym is.one ∙ named.1) in
     int_is tenant.epoch (pos e) (sym named.3 ∙ (sym (ap (λ r. column r 3) row) ∙ is.epoch_is))
 
-pub has_rows : (db : Trees) (name : List ℕ) (tenant : Tenant) (s : TenantState) → Names db name (Some tenant) → StandsFor db name (Some s) → HasRows db tenant.id tenant.epoch (inventory_of s)
+pub has_rows : (db : Trees) (name : List ℕ) (tenant : Tenant) (s : TenantState) → Names db name (Some tenant) → StandsFor db name (Some s) → HasRows db tenant (inventory_of s)
 has_rows db name tenant s named those =
     let id = same_number db name tenant those.1.id (epoch s) named those.1.tenant in record {
       epoch_is = same_epoch db name tenant those.1.id (epoch s) named those.1.tenant;
@@ -125,7 +118,7 @@ has_rows db name tenant s named those =
       exceptions = subst (λ n. IsPermutation (of_tenant exceptions_table n db) (rows_of_exceptions s.pools)) id those.1.exceptions;
     }
 
-pub has_receipts : (db : Trees) (name : List ℕ) (tenant : Tenant) (s : TenantState) → Names db name (Some tenant) → StandsFor db name (Some s) → HasReceipts db tenant.id tenant.epoch s.receipts
+pub has_receipts : (db : Trees) (name : List ℕ) (tenant : Tenant) (s : TenantState) → Names db name (Some tenant) → StandsFor db name (Some s) → HasReceipts db tenant s.receipts
 has_receipts db name tenant s named those =
     let id = same_number db name tenant those.1.id (epoch s) named those.1.tenant in record {
       epoch_is = same_epoch db name tenant those.1.id (epoch s) named those.1.tenant;
@@ -141,16 +134,3 @@ is_of_state db name s those = has_of_state s those.0
 pub is_found : (db : Trees) (name : List ℕ) (s : TenantState) → StandsFor db name (Some s) → (tenant : Tenant) × Names db name (Some tenant)
 is_found db name s those =
     let it = those.1.tenant in (record { id = those.1.id; epoch = pos (epoch s) }, (it.row, it.one, it.number, it.epoch_is))
-
--- ---- names that stand for nothing
-
--- a tenant that was found, whose rows are those of no state
-pub nothing_stands : (db : Trees) (name : List ℕ) (tenant : Tenant) → Names db name (Some tenant) → ((i : Inventory) → IsOfState i → ¬ HasRows db tenant.id tenant.epoch i) → (s : Option TenantState) → ¬ StandsFor db name s
-nothing_stands db name tenant named none None those = some_row named.0 (sym named.1 ∙ those)
-nothing_stands db name tenant named none (Some s) those = none (inventory_of s) (is_of_state db name s those) (has_rows db name tenant s named those)
-
--- a name that no tenant has, and that is not absent either
-pub nobody_stands : (db : Trees) (name : List ℕ) → ((tenant : Option Tenant) → ¬ Names db name tenant) → (s : Option TenantState) → ¬ StandsFor db name s
-nobody_stands db name none None those = none None those
-nobody_stands db name none (Some s) those =
-    let it = is_found db name s those in none (Some it.0) it.1

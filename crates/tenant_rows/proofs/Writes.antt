@@ -25,6 +25,7 @@ use Rattle.tenant_state.specs.Valid.{IsChange, IsInventory}
 use Rattle.tenant_state.specs.declared.receipts.Receipt.{Receipt}
 use Rattle.tenant_tables.specs.Change as write
 use Rattle.tenant_tables.specs.Change.{Accepts, IsNumber, without_key}
+use Rattle.tenant_tables.specs.declared.commit.Accepted.{Accepted}
 use Rattle.table_schema.specs.Values.{receipt_row}
 use Rattle.table_schema.specs.Holds.{Holds, IsTenant, TenantRows, of_tenant}
 use Rattle.table_schema.specs.Layout.{pools_table}
@@ -179,16 +180,16 @@ module _ (db : Trees) (name : List ℕ) (s : TenantState) (tenant : Tenant) (ver
   is_number = (name, epoch s, subst (λ id. IsTenant db name id (epoch s)) id_is may.state.1.tenant)
 
   -- what a commit makes of the rows stands for the state after the change
-  pub turned : (new : Trees) (r : tables.Receipt) (next number : ℤ) → IsChange c → receipt_row r ≡ row_of_receipt (c.number, c.receipt) → next ≡ pos (epoch s + 1) → number ≡ pos (versions + 1)
-      → Accepts tenant.id next r (rows_with_made number c.made) db new → Turns name (Some (after c s)) db new
-  turned new r next number change row raised numbered accepts =
-      let turn = accepts name (rows_of s) (epoch s + 1) may.state.1 id_is raised in
+  pub turned : (new : Trees) (a : Accepted) (number : ℤ) → IsChange c → a.id ≡ tenant.id → a.epoch ≡ pos (epoch s + 1) → receipt_row a.receipt ≡ row_of_receipt (c.number, c.receipt) → number ≡ pos (versions + 1)
+      → Accepts a (rows_with_made number c.made) db new → Turns name (Some (after c s)) db new
+  turned new a number change own raised row numbered accepts =
+      let turn = accepts name (rows_of s) (epoch s + 1) may.state.1 (id_is ∙ sym own) raised in
       let at : number ≡ pos (length s.versions + 1) = numbered ∙ ap (λ n. pos (n + 1)) may.count in
       record {
         own = (
           state_stays c s change may.can may.state.0,
-          after_rows c s r (epoch s + 1) new name may.state.0.has may.can.made may.can.new row refl
-              (subst (λ n. Holds new name (record (write.with_receipt r (rows_with_made n c.made (rows_of s))) { epoch = epoch s + 1 })) at turn.own),
+          after_rows c s a.receipt (epoch s + 1) new name may.state.0.has may.can.made may.can.new row refl
+              (subst (λ n. Holds new name (record (write.with_receipt a.receipt (rows_with_made n c.made (rows_of s))) { epoch = epoch s + 1 })) at turn.own),
         );
         others = λ other u apart. keeps other db new u (turn.others other apart);
       }

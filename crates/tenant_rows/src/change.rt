@@ -28,6 +28,7 @@ use table_reads::rows::PoolRow;
 use table_schema::values::{Exception, Pool as PoolValues, Receipt as ReceiptValues, State};
 use tenant_messages::SuccessStatus;
 use tenant_state::{Change, Made, Receipt};
+use tenant_tables::commit::Accepted;
 use tenant_tables::tables::Tables;
 
 // ---- numbers
@@ -176,90 +177,82 @@ fn receipt_values<'a>(number: &'a Text, receipt: &'a Receipt) -> ReceiptValues<'
 
 // ---- changes
 
-/// Writes `states`, each in place of an earlier one of its device, with the epoch and the receipt.
+/// Writes `states`, each in place of an earlier one of its device, with what each change writes.
 fn write_states<'a, S: Alter>(
     alloc: Global,
     tables: &mut Tables<S>,
-    id: i64,
-    epoch: i64,
+    accepted: &Accepted<'a>,
     states: &[DeviceState],
-    receipt: &ReceiptValues<'a>,
 ) -> Result<(), StoreFault>
     requires live { tables.old.1 ≡ false }
-    requires there { HasCleanDisk (state S.Store tables.old.0) → IsNumber (state S.Store tables.old.0).now.trees id }
-    ensures done { HasCleanDisk (state S.Store tables.new.0) → OnOk result (Accepts id epoch receipt.now (writes.with_states (map numbers_of states.now)) (state S.Store tables.old.0).now.trees (state S.Store tables.new.0).now.trees) }
+    requires there { HasCleanDisk (state S.Store tables.old.0) → IsNumber (state S.Store tables.old.0).now.trees accepted.now.id }
+    ensures done { HasCleanDisk (state S.Store tables.new.0) → OnOk result (Accepts accepted.now (writes.with_states (map numbers_of states.now)) (state S.Store tables.old.0).now.trees (state S.Store tables.new.0).now.trees) }
     ensures kept { HasCleanDisk (state S.Store tables.new.0) → tables.new.1 ≡ false → OnErr result ((state S.Store tables.new.0).now ≡ (state S.Store tables.old.0).now) }
     ensures latches { tables.new.1 ≡ true ↔ result ≡ Err StoreFault.Failed }
     ensures rows { result ≢ Err StoreFault.Damaged }
-    ensures crash { Survives (state S.Store tables.old.0) (state S.Store tables.new.0) (Accepts id epoch receipt.now (writes.with_states (map numbers_of states.now)) (state S.Store tables.old.0).now.trees) }
+    ensures crash { Survives (state S.Store tables.old.0) (state S.Store tables.new.0) (Accepts accepted.now (writes.with_states (map numbers_of states.now)) (state S.Store tables.old.0).now.trees) }
 {
     let values = all_state_values(alloc, states)?;
-    tables.commit_states(id, epoch, &values, receipt)
+    tables.commit_states(accepted, &values)
 }
 
-/// Writes `exceptions` of the pool with the id `pool`, in place of the earlier ones, with the epoch
-/// and the receipt. The tenant has to have the pool.
+/// Writes `exceptions` of the pool with the id `pool`, in place of the earlier ones, with what each
+/// change writes. The tenant has to have the pool.
 fn write_exceptions<S: Alter>(
     alloc: Global,
     tables: &mut Tables<S>,
-    id: i64,
-    epoch: i64,
+    accepted: Accepted<'_>,
     pool: u32,
     exceptions: &Exceptions,
-    receipt: ReceiptValues<'_>,
 ) -> Result<(), StoreFault>
     requires live { tables.old.1 ≡ false }
-    requires there { HasCleanDisk (state S.Store tables.old.0) → IsNumber (state S.Store tables.old.0).now.trees id }
-    requires suits { HasCleanDisk (state S.Store tables.old.0) → HasPoolsFor (state S.Store tables.old.0).now.trees id (NewExceptions pool exceptions.now) }
-    ensures done { HasCleanDisk (state S.Store tables.new.0) → OnOk result (Accepts id epoch receipt.entry (with_new_pairs pool exceptions.now) (state S.Store tables.old.0).now.trees (state S.Store tables.new.0).now.trees) }
+    requires there { HasCleanDisk (state S.Store tables.old.0) → IsNumber (state S.Store tables.old.0).now.trees accepted.id }
+    requires suits { HasCleanDisk (state S.Store tables.old.0) → HasPoolsFor (state S.Store tables.old.0).now.trees accepted.id (NewExceptions pool exceptions.now) }
+    ensures done { HasCleanDisk (state S.Store tables.new.0) → OnOk result (Accepts accepted.entry (with_new_pairs pool exceptions.now) (state S.Store tables.old.0).now.trees (state S.Store tables.new.0).now.trees) }
     ensures kept { HasCleanDisk (state S.Store tables.new.0) → tables.new.1 ≡ false → OnErr result ((state S.Store tables.new.0).now ≡ (state S.Store tables.old.0).now) }
     ensures latches { tables.new.1 ≡ true ↔ result ≡ Err StoreFault.Failed }
     ensures rows { HasCleanDisk (state S.Store tables.new.0) → result ≢ Err StoreFault.Damaged }
-    ensures crash { Survives (state S.Store tables.old.0) (state S.Store tables.new.0) (Accepts id epoch receipt.entry (with_new_pairs pool exceptions.now) (state S.Store tables.old.0).now.trees) }
+    ensures crash { Survives (state S.Store tables.old.0) (state S.Store tables.new.0) (Accepts accepted.entry (with_new_pairs pool exceptions.now) (state S.Store tables.old.0).now.trees) }
 {
-    let rows = tables.pools_of(id)?;
+    let rows = tables.pools_of(accepted.id)?;
     let Some(row) = row_with(rows, pool) else {
         return Err(StoreFault::Damaged);
     };
     let pairs = exceptions.pairs();
     let values = all_pair_values(alloc, pool, pairs)?;
     let pool = values_with(&row, values.len() as i64);
-    tables.commit_exceptions(id, epoch, &pool, &values, &receipt)
+    tables.commit_exceptions(&accepted, &pool, &values)
 }
 
-/// Writes `made`, with the epoch and the receipt. A version gets the number `number`.
+/// Writes `made`, with what each change writes. A version gets the number `number`.
 fn write_made<'a, S: Alter>(
     alloc: Global,
     tables: &mut Tables<S>,
-    id: i64,
-    epoch: i64,
+    accepted: &Accepted<'a>,
     number: i64,
     made: &'a Made,
-    receipt: &ReceiptValues<'a>,
 ) -> Result<(), StoreFault>
     requires live { tables.old.1 ≡ false }
-    requires there { HasCleanDisk (state S.Store tables.old.0) → IsNumber (state S.Store tables.old.0).now.trees id }
-    requires suits { HasCleanDisk (state S.Store tables.old.0) → HasPoolsFor (state S.Store tables.old.0).now.trees id (made_of made.now) }
-    ensures done { HasCleanDisk (state S.Store tables.new.0) → OnOk result (Accepts id epoch receipt.now (rows_with_made number (made_of made.now)) (state S.Store tables.old.0).now.trees (state S.Store tables.new.0).now.trees) }
+    requires there { HasCleanDisk (state S.Store tables.old.0) → IsNumber (state S.Store tables.old.0).now.trees accepted.now.id }
+    requires suits { HasCleanDisk (state S.Store tables.old.0) → HasPoolsFor (state S.Store tables.old.0).now.trees accepted.now.id (made_of made.now) }
+    ensures done { HasCleanDisk (state S.Store tables.new.0) → OnOk result (Accepts accepted.now (rows_with_made number (made_of made.now)) (state S.Store tables.old.0).now.trees (state S.Store tables.new.0).now.trees) }
     ensures kept { HasCleanDisk (state S.Store tables.new.0) → tables.new.1 ≡ false → OnErr result ((state S.Store tables.new.0).now ≡ (state S.Store tables.old.0).now) }
     ensures latches { tables.new.1 ≡ true ↔ result ≡ Err StoreFault.Failed }
     ensures rows { HasCleanDisk (state S.Store tables.new.0) → result ≢ Err StoreFault.Damaged }
-    ensures crash { Survives (state S.Store tables.old.0) (state S.Store tables.new.0) (Accepts id epoch receipt.now (rows_with_made number (made_of made.now)) (state S.Store tables.old.0).now.trees) }
+    ensures crash { Survives (state S.Store tables.old.0) (state S.Store tables.new.0) (Accepts accepted.now (rows_with_made number (made_of made.now)) (state S.Store tables.old.0).now.trees) }
 {
     match made {
-        Made::Version(version) => {
-            tables.commit_version(id, epoch, number, version.text(), receipt)
-        }
-        Made::States(states) => write_states(alloc, tables, id, epoch, states.as_slice(), receipt),
+        Made::Version(version) => tables.commit_version(accepted, number, version.text()),
+        Made::States(states) => write_states(alloc, tables, accepted, states.as_slice()),
         Made::Pool(pool) => {
             let values = pool_values(pool.as_ref());
-            tables.commit_pool(id, epoch, &values, receipt)
+            tables.commit_pool(accepted, &values)
         }
         Made::Exceptions(pool, exceptions) => {
             let exceptions = exceptions.exceptions();
-            write_exceptions(alloc, tables, id, epoch, *pool, exceptions, *receipt)
+            write_exceptions(alloc, tables, *accepted, *pool, exceptions)
         }
-        Made::NoPool(pool) => tables.commit_no_pool(id, epoch, i64::from(*pool), receipt),
+        Made::NoPool(pool) => tables.commit_no_pool(accepted, i64::from(*pool)),
     }
 }
 
@@ -291,13 +284,10 @@ pub fn write_change<S: Alter>(
         return Err(StoreFault::Damaged);
     };
     let receipt = receipt_values(&change.number, change.receipt.as_ref());
-    write_made(
-        alloc,
-        tables,
-        tenant.id,
+    let accepted = Accepted {
+        id: tenant.id,
         epoch,
-        number,
-        &change.made,
-        &receipt,
-    )
+        receipt,
+    };
+    write_made(alloc, tables, &accepted, number, &change.made)
 }

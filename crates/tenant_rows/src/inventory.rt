@@ -1,17 +1,14 @@
 //! What a tenant has, from its rows.
 
-ghost use Rattle.std.specs.Prelude.{◌≡◌, ◌↔◌, map, None, is_some, IfOk, IfSome, IsTrue};
-ghost use Rattle.std.specs.List.{list_all, list_any};
+ghost use Rattle.std.specs.Prelude.{◌≡◌, ◌↔◌, map, None, IfOk, IfSome, IsTrue};
+ghost use Rattle.std.specs.List.{list_any};
 ghost use Rattle.std.specs.Str.{bytes_eq};
-ghost use Rattle.crush_pool.specs.Placements.{rule_numbered};
 ghost use Rattle.tenant_state.specs.State.{Inventory as Has, have_rules};
 ghost use Rattle.tenant_state.specs.Valid.{are_named_once};
 ghost use Rattle.tenant_rows.specs.Lists.{IsOfState, AreRowsOf};
 
 use crate::parts::{states_from, versions_from};
 use crate::pools::pools_from;
-use crush_map::CrushMap;
-use crush_pool::rule_with_id;
 use crush_text::written_maps_are_read_back;
 use std::alloc::{AllocError, Global};
 use std::rc::Rc;
@@ -48,21 +45,12 @@ fn are_named_once(pools: &[Rc<TenantPool>]) -> bool
     true
 }
 
-/// Returns whether `map` has the rule of each of `pools`.
-fn has_each_rule(map: &CrushMap, pools: &[Rc<TenantPool>]) -> bool
-    ensures { result ≡ list_all (λ p. is_some (rule_numbered map.now p.value.parts.rule)) pools.now }
-{
-    pools
-        .iter()
-        .all(|pool| rule_with_id(map, pool.parts().rule).is_some())
-}
-
 /// Returns whether the newest version has the rule of each pool.
 fn have_rules(inventory: &Inventory) -> bool
     ensures { result ≡ have_rules inventory.now }
 {
     match inventory.version(inventory.newest()) {
-        Some(version) => has_each_rule(version.map(), inventory.pools().as_slice()),
+        Some(version) => inventory.has_rules_in(version.map()),
         None => inventory.pools().as_slice().is_empty(),
     }
 }

@@ -13,6 +13,7 @@ ghost use Rattle.tenant_rows.specs.Pages.{AreReceipts, IsOfReceipt, IsTail, Leav
 use crate::parts::is_receipt_row;
 use sqlite::Alter;
 use store_faults::StoreFault;
+use table_reads::find::Tenant;
 use table_reads::pages::PAGE;
 use table_reads::rows::ReceiptRow;
 use tenant_tables::tables::Tables;
@@ -65,32 +66,28 @@ fn rest_behind(page: Vec<ReceiptRow>, left: u64) -> Result<Option<Rest>, StoreFa
     }
 }
 
-/// Tests the receipts of the tenant with the number `id`, in pages: each row has to be a receipt,
-/// and their number has to be `epoch`. No row is changed.
+/// Tests the receipts of the tenant, in pages: each row has to be a receipt, and their number has
+/// to be the epoch. No row is changed.
 ///
 /// `Err(StoreFault::Damaged)`: exactly where they are the receipts of no state.
 /// `Err(StoreFault::NoMemory)`: an allocation failed. `Err(StoreFault::Failed)`: the tables are
 /// latched.
-pub fn judge_receipts<S: Alter>(
-    tables: &mut Tables<S>,
-    id: i64,
-    epoch: i64,
-) -> Result<(), StoreFault>
+pub fn judge_receipts<S: Alter>(tables: &mut Tables<S>, tenant: &Tenant) -> Result<(), StoreFault>
     requires live { tables.old.1 ≡ false }
-    ensures found { HasCleanDisk (state S.Store tables.new.0) → OnOk result ((receipts : Receipts) × HasReceipts (state S.Store tables.old.0).now.trees id epoch receipts) }
-    ensures damaged { HasCleanDisk (state S.Store tables.new.0) → result ≡ Err StoreFault.Damaged → (receipts : Receipts) → ¬ HasReceipts (state S.Store tables.old.0).now.trees id epoch receipts }
+    ensures found { HasCleanDisk (state S.Store tables.new.0) → OnOk result ((receipts : Receipts) × HasReceipts (state S.Store tables.old.0).now.trees tenant.now receipts) }
+    ensures damaged { HasCleanDisk (state S.Store tables.new.0) → result ≡ Err StoreFault.Damaged → (receipts : Receipts) → ¬ HasReceipts (state S.Store tables.old.0).now.trees tenant.now receipts }
     ensures full { result ≢ Err StoreFault.Full }
     ensures kept { HasCleanDisk (state S.Store tables.new.0) → tables.new.1 ≡ false → (state S.Store tables.new.0).now ≡ (state S.Store tables.old.0).now }
     ensures latches { tables.new.1 ≡ true ↔ result ≡ Err StoreFault.Failed }
     ensures crash { Survives (state S.Store tables.old.0) (state S.Store tables.new.0) (λ _. ⊥) }
 {
-    let Ok(number) = u64::try_from(epoch) else {
+    let Ok(number) = u64::try_from(tenant.epoch) else {
         return Err(StoreFault::Damaged);
     };
-    let page = tables.first_receipts(id)?;
+    let page = tables.first_receipts(tenant.id)?;
     let mut rest = rest_behind(page, number)?;
     while let Some(more) = rest {
-        let page = tables.receipts_after(id, more.after.as_str())?;
+        let page = tables.receipts_after(tenant.id, more.after.as_str())?;
         rest = rest_behind(page, more.left)?;
     }
     Ok(())

@@ -1,5 +1,5 @@
 -- What is written in pieces.
-use Rattle.std.proofs.Common.{◌≡◌, ℕ, ◌-◌, ◌<◌, List, [], ◌++◌, length, take, drop, Option, Some, None, refl, ap, sym, ◌∙◌, arith, append_assoc, length-append, length-drop}
+use Rattle.std.proofs.Common.{◌≡◌, ℕ, ◌-◌, ◌<◌, List, [], ◌++◌, length, take, drop, Option, Some, None, ap, sym, ◌∙◌, arith, append_assoc, length-append, length-drop}
 use Rattle.std.proofs.lemmas.List.{take_all, append-nil, take-append-drop}
 use Rattle.std.specs.Io.KnownBytes.{Appends}
 use Rattle.tenant_service.specs.Writing.{AppendsUpTo, AppendsPart}
@@ -17,12 +17,6 @@ appends_both (Some us) (Some vs) None xs ys first second = absurd second
 appends_both (Some us) (Some vs) (Some ws) xs ys first second = rw (second, first) (append_assoc us xs ys)
 
 -- ---- up to a rest
-
-pub up_to_all : (a : Option (List ℕ)) (bytes : List ℕ) → AppendsUpTo bytes a a bytes
-up_to_all a bytes = record { front = []; all = refl; written = appends_none a }
-
-pub up_to_none : (a b : Option (List ℕ)) (bytes : List ℕ) → AppendsUpTo [] a b bytes → Appends a b bytes
-up_to_none a b bytes h = rw (sym h.all ∙ append-nil h.front) h.written
 
 -- a write of the first n bytes of the rest
 pub up_to_more : (a b c : Option (List ℕ)) (bytes rest : List ℕ) (n : ℕ) → AppendsUpTo rest a b bytes → Appends b c (take n rest)

@@ -14,8 +14,8 @@ use std::marker::Model;
 use std::rc::Rc;
 use tenant_core::laws::each_decision_fits_its_state;
 use tenant_core::{
-    Action, Decision, Effect, Request, Routes, StoreFault, TenantStore, answer_cached, decide,
-    read_request, store_fault,
+    Action, Decision, Effect, Query, Request, Routes, StoreFault, TenantStore, answer_cached,
+    decide, read_request, store_fault,
 };
 use tenant_messages::{Call, CallParts, Refusal, Reply, refused};
 use tenant_state::Receipt;
@@ -85,6 +85,13 @@ fn decide_cached<T: TenantStore>(
     let Action::Query(query) = &request.action else {
         return Ok(None);
     };
+    // a cache has nothing for other queries: they are answered after a load
+    if !matches!(
+        query,
+        Query::Group(_, _) | Query::Object(_, _) | Query::Impact(_, _) | Query::Moves(_, _, _)
+    ) {
+        return Ok(None);
+    }
     let Some((inventory, cached)) = store.cached(request.tenant, query) else {
         return Ok(None);
     };
@@ -194,6 +201,8 @@ pub struct Service<T: TenantStore> {
     pub(crate) alloc: Global,
     routes: Routes,
     store: T,
+    /// Whether a call of the store failed for good.
+    is_latched: bool,
 }
 
 impl<T: TenantStore> Model for Service<T> {
@@ -202,6 +211,8 @@ impl<T: TenantStore> Model for Service<T> {
     ghost coded = { T.code };
 
     ghost view = { λ a. a.store };
+
+    ghost invariant = { λ a. a.is_latched ≡ T.latched a.store };
 }
 
 impl<T: TenantStore + Drop> Service<T> {
@@ -228,10 +239,12 @@ impl<T: TenantStore> Service<T> {
     pub fn with_routes(alloc: Global, routes: Routes, store: T) -> Self
         ensures { result ≡ store }
     {
+        let is_latched = store.is_latched();
         Service {
             alloc,
             routes,
             store,
+            is_latched,
         }
     }
 
@@ -248,14 +261,14 @@ impl<T: TenantStore> Service<T> {
     pub fn is_latched(&self) -> bool
         ensures { result ≡ T.latched self.now }
     {
-        self.store.is_latched()
+        self.is_latched
     }
 
     /// Serves a call and returns its reply. The reply is the definition's for the state of the
     /// call's tenant, which then has the definition's new state, and the state of every other
     /// tenant is unchanged; or the reply is 503, and the state of every tenant is unchanged. A call
     /// that latches the store is answered 503; after a crash an opening may then find it done or
-    /// not. A latched store is only asked whether it is latched.
+    /// not. A latched store is called no more.
     pub fn request(&mut self, call: CallParts<'_>) -> Reply
         ensures serves { T.is_honest self.new → T.latched self.new ≡ false → Serves (call_of call.entry) (T.has_state self.old) (T.has_state self.new) result }
         ensures rows { T.is_honest self.new → T.latched self.new ≡ false → (t : List ℕ) → is_of t (call_of call.entry) ≡ true → IsDamaged (T.has_state self.old) t → T.keeps self.old self.new }
@@ -264,12 +277,15 @@ impl<T: TenantStore> Service<T> {
         ensures silent { T.latched self.new ≡ true → IsUnavailable result }
         ensures honest { T.is_honest self.new → T.is_honest self.old }
     {
-        if self.store.is_latched() {
+        if self.is_latched {
             return store_fault(self.alloc, StoreFault::Failed);
         }
         match reply_or_fault(self.alloc, &self.routes, &mut self.store, call) {
             Ok(reply) => reply,
-            Err(fault) => store_fault(self.alloc, fault),
+            Err(fault) => {
+                self.is_latched = fault == StoreFault::Failed;
+                store_fault(self.alloc, fault)
+            }
         }
     }
 

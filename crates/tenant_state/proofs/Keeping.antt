@@ -10,12 +10,9 @@ use Rattle.std.specs.Ordering.{is_lt, match_ordering}
 use Rattle.std.specs.Prelude.{String}
 use Rattle.std.specs.declared.alloc.Global.{Global}
 use Rattle.std.specs.declared.rc.Rc.{Rc}
-use Rattle.crush_map.specs.Map.{Map}
-use Rattle.crush_pool.specs.declared.states.DeviceState.{DeviceState}
 use Rattle.tenant_state.proofs.Ordering.{before_rest}
 use Rattle.tenant_state.specs.Ordered.{is_ascending, is_before_first}
 use Rattle.tenant_state.specs.Receipts.{Receipts, is_before, receipt_of, with_receipt}
-use Rattle.tenant_state.specs.State.{Inventory, TenantPool}
 use Rattle.tenant_state.specs.declared.receipts.Receipt.{Receipt}
 
 abbrev Kept : Type 0
@@ -111,9 +108,3 @@ same_shared [] [] h = refl
 same_shared [] (w ∷ ws) h = absurd h
 same_shared (v ∷ vs) [] h = absurd h
 same_shared (v ∷ vs) (w ∷ ws) h = let head = h.0 in let tail = same_shared vs ws h.1 in rw (head, tail) refl
-
-pub same_inventory : (vs ws : List (Rc Map Global)) (devices again-devices : List DeviceState) (pools again : List TenantPool) (epoch : ℕ)
-    → AllZip (λ (p q : Rc Map Global). q.value ≡ p.value) vs ws → again-devices ≡ devices → again ≡ pools
-    → ◌≡◌ {A = Inventory} (record { versions = map (λ (v : Rc Map Global). v.value) ws; devices = again-devices; pools = again; epoch = epoch })
-    (record { versions = map (λ (v : Rc Map Global). v.value) vs; devices = devices; pools = pools; epoch = epoch })
-same_inventory vs ws devices again-devices pools again epoch h d p = let versions = same_shared vs ws h in rw (versions, d, p) refl

@@ -6,6 +6,7 @@ ghost use Rattle.crush_pool.specs.States.{reweights};
 ghost use Rattle.tenant_state.specs.Ordered.{is_ascending, is_before_first};
 ghost use Rattle.tenant_state.specs.State.{is_lower_device, with_state};
 
+use crate::size::size_of_states;
 use crush_content::SharedStates;
 use crush_pool::{DeviceState, DeviceStates, reweights_of};
 use crush_select::Weights;
@@ -19,13 +20,16 @@ pub struct Devices {
     states: SharedStates,
     weights: Weights,
     flags: DeviceStates,
+    /// How many bytes the states take, with their tables.
+    size: u64,
 }
 
 impl Model for Devices {
-    ghost use Rattle.std.specs.Prelude.{◌≡◌, List};
+    ghost use Rattle.std.specs.Prelude.{◌≡◌, ◌-◌, ◌^◌, List, min};
     ghost use Rattle.crush_select.specs.Weights.{weights_of};
     ghost use Rattle.crush_pool.specs.States.{flags_of, reweights};
     ghost use Rattle.crush_pool.specs.declared.states.DeviceState.{DeviceState};
+    ghost use Rattle.tenant_state.specs.Size.{states_size};
 
     ghost Value = { List DeviceState };
 
@@ -34,14 +38,16 @@ impl Model for Devices {
     ghost invariant = { λ a. record {
       weights : a.weights ≡ weights_of (reweights a.states);
       flags : a.flags ≡ flags_of a.states;
+      size : a.size ≡ min (states_size a.states) (2 ^ 64 - 1);
     } };
 }
 
 impl Devices {
-    ghost use Rattle.std.specs.Prelude.{◌≡◌, [], IfOk};
+    ghost use Rattle.std.specs.Prelude.{◌≡◌, ◌-◌, ◌^◌, [], IfOk, min};
     ghost use Rattle.crush_select.specs.Weights.{weights_of};
     ghost use Rattle.crush_pool.specs.States.{flags_of, reweights};
     ghost use Rattle.tenant_state.specs.Ordered.{if_ascending};
+    ghost use Rattle.tenant_state.specs.Size.{states_size};
     ghost use Rattle.tenant_state.specs.State.{is_lower_device, with_states};
 
     /// Makes a list without states: each device has the reweight 1.0 (65536 in 16.16 fixed point)
@@ -73,10 +79,12 @@ impl Devices {
         let given = reweights_of(alloc, &states)?;
         let weights = Weights::of(alloc, &given)?;
         let flags = DeviceStates::build(alloc, &states)?;
+        let size = size_of_states(&states);
         Ok(Devices {
             states: SharedStates::new(states)?,
             weights,
             flags,
+            size,
         })
     }
 
@@ -106,6 +114,13 @@ impl Devices {
         ensures { result.now ≡ flags_of self.now }
     {
         &self.flags
+    }
+
+    /// Returns the bytes of memory that the states take at most, with their tables, by an estimate.
+    pub(crate) fn size(&self) -> u64
+        ensures { result ≡ min (states_size self.now) (2 ^ 64 - 1) }
+    {
+        self.size
     }
 
     /// Makes a copy in which the states `changed` are stored, one after the other.

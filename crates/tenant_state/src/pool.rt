@@ -14,6 +14,7 @@ use std::rc::Rc;
 /// pairs, which are exceptions that it can have.
 #[derive(Drop)]
 pub struct TenantPool {
+    id: u32,
     pool: Rc<Pool>,
     exceptions: SharedExceptions,
     size: u64,
@@ -30,6 +31,7 @@ impl Model for TenantPool {
     ghost view = { λ a. record { parts = a.pool.value; pairs = a.exceptions } };
 
     ghost invariant = { λ a. record {
+      id : a.id ≡ a.pool.value.id;
       pairs : are_pairs a.pool.value.pg_num a.exceptions ≡ true;
       size : a.size ≡ min (pool_size (record { parts = a.pool.value; pairs = a.exceptions })) (2 ^ 64 - 1);
     } };
@@ -55,8 +57,10 @@ impl TenantPool {
         requires { are_pairs pool.value.pg_num exceptions ≡ true }
         ensures { result ≡ record { parts = pool.value; pairs = exceptions } }
     {
+        let id = pool.parts().id;
         let size = size_of_pool(exceptions.exceptions().pairs());
         TenantPool {
+            id,
             pool,
             exceptions,
             size,
@@ -78,6 +82,13 @@ impl TenantPool {
         ensures { IfOk result (λ p. p ≡ record { parts = self.now.parts; pairs = exceptions.now }) }
     {
         Ok(TenantPool::of(self.pool.clone()?, exceptions.share()?))
+    }
+
+    /// Returns the id of the pool.
+    pub fn id(&self) -> u32
+        ensures { result ≡ self.now.parts.id }
+    {
+        self.id
     }
 
     /// Returns the pool.

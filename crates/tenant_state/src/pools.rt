@@ -6,6 +6,7 @@ ghost use Rattle.tenant_state.specs.Ordered.{is_ascending, is_before_first, with
 ghost use Rattle.tenant_state.specs.State.{is_lower_pool};
 
 use crate::pool::TenantPool;
+use crate::size::size_of_pools;
 use crush_content::SharedExceptions;
 use crush_pool::Pool;
 use std::alloc::{AllocError, Global};
@@ -17,29 +18,43 @@ use std::rc::Rc;
 #[derive(Drop)]
 pub struct Pools {
     pools: Vec<Rc<TenantPool>>,
+    /// How many bytes the pools take.
+    size: u64,
 }
 
 impl Model for Pools {
-    ghost use Rattle.std.specs.Prelude.{List, map};
+    ghost use Rattle.std.specs.Prelude.{◌≡◌, ◌-◌, ◌^◌, List, map, min};
+    ghost use Rattle.std.specs.List.{sum_by};
+    ghost use Rattle.tenant_state.specs.Size.{pool_size};
     ghost use Rattle.tenant_state.specs.State.{TenantPool};
 
     ghost Value = { List TenantPool };
 
     ghost view = { λ a. map (λ p. p.value) a.pools.items };
+
+    ghost invariant = { λ a. a.size ≡ min (sum_by pool_size (map (λ p. p.value) a.pools.items)) (2 ^ 64 - 1) };
 }
 
 impl Pools {
-    ghost use Rattle.std.specs.Prelude.{◌≡◌, ◌==◌, [], IfOk, length, find, map, option_map, true};
+    ghost use Rattle.std.specs.Prelude.{◌≡◌, ◌-◌, ◌^◌, ◌==◌, [], IfOk, length, find, map, min, option_map, true};
+    ghost use Rattle.std.specs.List.{sum_by};
     ghost use Rattle.tenant_state.specs.Ordered.{if_ascending, with_element, without};
+    ghost use Rattle.tenant_state.specs.Size.{pool_size};
     ghost use Rattle.tenant_state.specs.State.{can_have, is_lower_pool, with_pairs};
 
     /// Makes a list without pools. Allocates nothing.
     pub fn new(alloc: Global) -> Self
         ensures { result ≡ [] }
     {
-        Pools {
-            pools: Vec::new(alloc),
-        }
+        Pools::of(Vec::new(alloc))
+    }
+
+    /// Makes the pools of a list, and counts the bytes that they take.
+    fn of(pools: Vec<Rc<TenantPool>>) -> Self
+        ensures { result ≡ map (λ p. p.value) pools.items }
+    {
+        let size = size_of_pools(&pools);
+        Pools { pools, size }
     }
 
     /// Makes the pools of a list that is in the order of their ids. `None`, exactly where an id
@@ -48,7 +63,7 @@ impl Pools {
         ensures { result ≡ if_ascending is_lower_pool (map (λ p. p.value) pools.items) }
     {
         if are_ascending(&pools) {
-            Some(Pools { pools })
+            Some(Pools::of(pools))
         } else {
             None
         }
@@ -66,6 +81,13 @@ impl Pools {
         ensures { map (λ p. p.value) result.now ≡ self.now }
     {
         self.pools.as_slice()
+    }
+
+    /// Returns the bytes of memory that the pools take at most, by an estimate.
+    pub(crate) fn size(&self) -> u64
+        ensures { result ≡ min (sum_by pool_size self.now) (2 ^ 64 - 1) }
+    {
+        self.size
     }
 
     /// Returns the shared pool that has `id`, or `None`.
@@ -95,6 +117,7 @@ impl Pools {
     {
         Ok(Pools {
             pools: self.pools.clone()?,
+            size: self.size,
         })
     }
 
@@ -106,7 +129,7 @@ impl Pools {
         let mut pools = self.pools.clone()?;
         let new = TenantPool::new(alloc, pool.clone()?)?;
         insert(&mut pools, Rc::new(alloc, new)?)?;
-        Ok(Pools { pools })
+        Ok(Pools::of(pools))
     }
 
     /// Makes a copy in which the pool that has `id` has `exceptions`, each of which is of a group
@@ -125,7 +148,7 @@ impl Pools {
             let pool = pools[place].with_exceptions(exceptions)?;
             pools[place] = Rc::new(alloc, pool)?;
         }
-        Ok(Pools { pools })
+        Ok(Pools::of(pools))
     }
 
     /// Makes a copy without the pool that has `id`. `Err(AllocError)`: an allocation failed;
@@ -137,7 +160,7 @@ impl Pools {
         if let Some(place) = place_with(&pools, u64::from(id)) {
             let _removed = pools.remove(place);
         }
-        Ok(Pools { pools })
+        Ok(Pools::of(pools))
     }
 }
 
@@ -145,16 +168,14 @@ impl Pools {
 fn place_with(pools: &[Rc<TenantPool>], id: u64) -> Option<usize>
     ensures { result ≡ position (λ p. p.value.parts.id == id) pools.now }
 {
-    pools
-        .iter()
-        .position(|pool| u64::from(pool.parts().id) == id)
+    pools.iter().position(|pool| u64::from(pool.id()) == id)
 }
 
 /// Returns the place of the first pool whose id is at least `id`.
 fn not_below(pools: &[Rc<TenantPool>], id: u32) -> Option<usize>
     ensures { result ≡ position (λ p. nat_le id p.value.parts.id) pools.now }
 {
-    pools.iter().position(|pool| pool.parts().id >= id)
+    pools.iter().position(|pool| pool.id() >= id)
 }
 
 /// Returns the place of the first pool whose id is at least `id`; where there is none, the number
@@ -187,7 +208,7 @@ fn is_below_first(pool: &TenantPool, others: &[Rc<TenantPool>]) -> bool
     ensures { result ≡ is_before_first is_lower_pool pool.now (map (λ p. p.value) others.now) }
 {
     match others {
-        [next, ..] => pool.parts().id < next.parts().id,
+        [next, ..] => pool.id() < next.id(),
         [] => true,
     }
 }
@@ -197,9 +218,9 @@ fn is_below_first(pool: &TenantPool, others: &[Rc<TenantPool>]) -> bool
 fn insert(pools: &mut Vec<Rc<TenantPool>>, new: Rc<TenantPool>) -> Result<(), AllocError>
     ensures { OnOk result (map (λ p. p.value) pools.new.items ≡ with_element (λ p. p.parts.id) new.value (map (λ p. p.value) pools.old.items)) }
 {
-    let id = new.parts().id;
+    let id = new.id();
     let place = place_of(pools, id);
-    if place < pools.len() && pools[place].parts().id == id {
+    if place < pools.len() && pools[place].id() == id {
         pools[place] = new;
     } else {
         pools.insert(place, new)?;

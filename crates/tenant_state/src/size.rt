@@ -9,11 +9,9 @@ ghost use Rattle.std.specs.Prelude.{◌≡◌, ◌+◌, ◌-◌, ◌*◌, ◌^�
 ghost use Rattle.std.specs.List.{sum_by};
 ghost use Rattle.crush_pool.specs.declared.pool.PoolParts.{PoolParts};
 ghost use Rattle.crush_writing.specs.Canonical.{canonical};
-ghost use Rattle.tenant_state.specs.Size as spec;
 ghost use Rattle.tenant_state.specs.Size.{bucket_reach, device_reach, group_reach, items_in, map_size, pool_size, states_size, steps_in, version_size};
 
 use crate::pool::TenantPool;
-use crate::state::Inventory;
 use crate::version::Version;
 use crush_map::{Bucket, CrushMap, Rule};
 use crush_pool::{DeviceState, Pair};
@@ -69,7 +67,7 @@ pub const PAIR_BYTES: u64 = 32;
 pub const GROUP_BYTES: u64 = 2;
 
 /// Adds two numbers, up to 2^64 - 1.
-fn plus(a: u64, b: u64) -> u64
+pub(crate) fn plus(a: u64, b: u64) -> u64
     ensures { result ≡ min (a + b) (2 ^ 64 - 1) }
 {
     a.saturating_add(b)
@@ -164,7 +162,7 @@ fn device_reach(states: &[DeviceState]) -> u64
 }
 
 /// Returns the bytes that states of devices take, with their tables.
-fn size_of_states(states: &[DeviceState]) -> u64
+pub(crate) fn size_of_states(states: &[DeviceState]) -> u64
     ensures { result ≡ min (states_size states.now) (2 ^ 64 - 1) }
 {
     let each = times(STATE_BYTES, states.len() as u64);
@@ -193,7 +191,7 @@ pub(crate) fn size_of_pool(pairs: &[Pair]) -> u64
 }
 
 /// Adds up the bytes that `pools` take.
-fn size_of_pools(pools: &[Rc<TenantPool>]) -> u64
+pub(crate) fn size_of_pools(pools: &[Rc<TenantPool>]) -> u64
     ensures { result ≡ min (sum_by pool_size (map (λ p. p.value) pools.now)) (2 ^ 64 - 1) }
 {
     let mut total = 0;
@@ -201,19 +199,4 @@ fn size_of_pools(pools: &[Rc<TenantPool>]) -> u64
         total = plus(total, pool.size());
     }
     total
-}
-
-impl Inventory {
-    ghost use Rattle.std.specs.Prelude.{◌≡◌, ◌-◌, ◌^◌, min};
-    ghost use Rattle.tenant_state.specs.Size as spec;
-
-    /// Returns the bytes of memory that the inventory takes at most, by an estimate.
-    pub fn size(&self) -> u64
-        ensures { result ≡ min (spec.size self.now) (2 ^ 64 - 1) }
-    {
-        let versions = plus(INVENTORY_BYTES, self.size_of_versions());
-        let states = size_of_states(self.devices().states());
-        let pools = size_of_pools(self.pools().as_slice());
-        plus(plus(versions, states), pools)
-    }
 }

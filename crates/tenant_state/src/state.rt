@@ -4,11 +4,12 @@ use crate::devices::Devices;
 use crate::pool::TenantPool;
 use crate::pools::Pools;
 use crate::receipts::{Receipt, Receipts};
+use crate::size::{INVENTORY_BYTES, plus};
 use crate::version::Version;
 use crate::versions::Versions;
 use crush_content::{Content, SharedExceptions};
-use crush_map::{Listed, Text};
-use crush_pool::{DeviceState, Placer, Pool};
+use crush_map::{CrushMap, Listed, Text};
+use crush_pool::{DeviceState, Placer, Pool, rule_with_id};
 use std::alloc::{AllocError, Global};
 use std::marker::Model;
 use std::rc::Rc;
@@ -78,10 +79,10 @@ impl Model for Inventory {
 
 impl Inventory {
     ghost use Rattle.std.specs.Prelude.{◌≡◌, ◌<◌, ◌-◌, ◌^◌, [], IfOk, map, min, option_map, true};
-    ghost use Rattle.std.specs.List.{sum_by};
     ghost use Rattle.crush_content.specs.Contents.{content_of};
+    ghost use Rattle.crush_map.specs.Map.{IsMap};
     ghost use Rattle.tenant_state.specs.Made.{made_of};
-    ghost use Rattle.tenant_state.specs.Size.{version_size};
+    ghost use Rattle.tenant_state.specs.Size.{size};
     ghost use Rattle.tenant_state.specs.State as spec;
     ghost use Rattle.tenant_state.specs.Valid.{IsInventory};
     ghost use Rattle.tenant_state.specs.declared.limits.TheConstants.{RECEIPT_LIMIT};
@@ -148,13 +149,6 @@ impl Inventory {
         }
     }
 
-    /// Returns the bytes of memory that the versions take at most, by an estimate.
-    pub(crate) fn size_of_versions(&self) -> u64
-        ensures { result ≡ min (sum_by version_size self.now.versions) (2 ^ 64 - 1) }
-    {
-        self.versions.size()
-    }
-
     /// Returns the states of devices that were stored.
     pub fn devices(&self) -> &Devices
         ensures { result.now ≡ self.now.devices }
@@ -169,6 +163,16 @@ impl Inventory {
         &self.pools
     }
 
+    /// Returns whether a map has the rule of each pool.
+    pub fn has_rules_in(&self, map: &CrushMap) -> bool
+        ensures { result ≡ spec.has_rules_of self.now.pools map.now }
+    {
+        self.pools
+            .as_slice()
+            .iter()
+            .all(|pool| rule_with_id(map, pool.parts().rule).is_some())
+    }
+
     /// Makes the placer of `pool` on `version`, with the pool's exceptions and the states of
     /// devices as they are now. The problem is `NoRule`, exactly where the version lacks the
     /// pool's rule.
@@ -177,7 +181,8 @@ impl Inventory {
         version: &'a Version,
         pool: &'a TenantPool,
     ) -> Result<Placer<'a>, Problem>
-        ensures { result ≡ spec.on_version self.now pool.now version.now }
+        ensures value { result ≡ spec.on_version self.now pool.now version.now }
+        ensures map { IsMap version.now }
     {
         let devices = self.devices();
         Placer::new(
@@ -209,11 +214,22 @@ impl Inventory {
     pub fn content(&self, version: &Version, pool: &TenantPool) -> Result<Content, AllocError>
         ensures { IfOk result (λ c. c ≡ content_of (record { map = version.now; states = self.now.devices; pool = pool.now.parts; pairs = pool.now.pairs })) }
     {
-        let text = version.shared_text().share()?;
-        let states = self.devices().shared_states().share()?;
-        let exceptions = pool.shared_exceptions().share()?;
-        let pool = pool.shared_pool().clone()?;
-        Ok(Content::new(text, states, pool, exceptions))
+        Content::new(
+            version.shared_text(),
+            self.devices.shared_states(),
+            pool.shared_pool(),
+            pool.shared_exceptions(),
+        )
+    }
+
+    /// Returns the bytes of memory that the inventory takes at most, by an estimate.
+    pub fn size(&self) -> u64
+        ensures { result ≡ min (size self.now) (2 ^ 64 - 1) }
+    {
+        let versions = plus(INVENTORY_BYTES, self.versions.size());
+        let states = self.devices.size();
+        let pools = self.pools.size();
+        plus(plus(versions, states), pools)
     }
 
     /// Returns whether `made` suits the inventory: exceptions suit the pool that they are for,

@@ -10,6 +10,7 @@ use crush_map::CrushMap;
 use crush_text::{canonical_texts_are_ascii, read_stored, write_map, written_maps_are_read_back};
 use std::alloc::{AllocError, Global};
 use std::marker::Model;
+use std::rc::Rc;
 
 /// A version: a checked map, with its canonical text, and the tables that its rules run on.
 /// Contracts see the map.
@@ -60,6 +61,14 @@ impl Version {
             tables,
             size,
         })
+    }
+
+    /// Makes the shared version with this map. `Err(AllocError)`: an allocation failed; the map is
+    /// dropped.
+    pub fn shared(alloc: Global, map: CrushMap) -> Result<Rc<Self>, AllocError>
+        ensures { IfOk result (λ version. version.value ≡ map) }
+    {
+        Ok(Rc::new(alloc, Version::build(alloc, map)?)?)
     }
 
     /// Makes the version of a canonical text, as `text` gives it. `None`, exactly where the text
@@ -125,8 +134,6 @@ impl Version {
 fn canonical_text(alloc: Global, map: &CrushMap) -> Result<SharedText, AllocError>
     ensures { IfOk result (λ text. text ≡ canonical map.now) }
 {
-    // any reader of a map also gives the prover that it is valid, which the law needs
-    let _tunables = map.tunables();
     canonical_texts_are_ascii();
     match String::from_utf8(write_map(alloc, map)?) {
         Ok(text) => SharedText::new(text),

@@ -19,32 +19,29 @@ use Rattle.tenant_store.specs.Judged.{AreJudged, Counts, Adds}
 
 module _ (db : Trees) (name : List ℕ) (tenant : Tenant) (names : Names db name (Some tenant)) where
   -- a name that was judged has receipts
-  pub was_judged : (counts : Counts) (n : ℕ) → AreJudged db counts → counts name ≡ Some n → (receipts : Receipts) × HasReceipts db tenant.id tenant.epoch receipts
+  pub was_judged : (counts : Counts) (n : ℕ) → AreJudged db counts → counts name ≡ Some n → (receipts : Receipts) × HasReceipts db tenant receipts
   was_judged counts n judged found =
       let it = judged name n found in
       (it.0.receipts, has_receipts db name tenant it.0 names it.1)
 
   -- what is remembered after receipts were judged is true
-  pub now_judged : (i : Inventory) (versions : ℕ) (old new : Counts) → IsOfState i → HasRows db tenant.id tenant.epoch i → length i.versions ≡ versions
-      → (receipts : Receipts) × HasReceipts db tenant.id tenant.epoch receipts → AreJudged db old → Adds name versions old new → AreJudged db new
+  pub now_judged : (i : Inventory) (versions : ℕ) (old new : Counts) → IsOfState i → HasRows db tenant i → length i.versions ≡ versions
+      → (receipts : Receipts) × HasReceipts db tenant receipts → AreJudged db old → Adds name versions old new → AreJudged db new
   now_judged i versions old new is rows count those judged adds t n found = elim (adds t n found) [
     | inl it ↦ (with_receipts i those.0, subst (λ u. StandsFor db u (Some (with_receipts i those.0))) (sym it.0) (stands_for_found db name tenant i those.0 names is rows those.1), count ∙ sym it.1)
     | inr was ↦ judged t n was
   ]
 
   -- what a tenant has, with its receipts, is a state
-  pub is_whole : (i : Inventory) → IsOfState i → HasRows db tenant.id tenant.epoch i → (receipts : Receipts) × HasReceipts db tenant.id tenant.epoch receipts
+  pub is_whole : (i : Inventory) → IsOfState i → HasRows db tenant i → (receipts : Receipts) × HasReceipts db tenant receipts
       → (s : TenantState) × StandsFor db name (Some s) × (i ≡ inventory_of s)
   is_whole i is rows those =
       let count = nat_is i.epoch (length those.0) (sym rows.epoch_is ∙ those.1.epoch_is) in
       (with_receipts i those.0, stands_for_found db name tenant i those.0 names is rows those.1, ap (λ n. record { versions = i.versions; devices = i.devices; pools = i.pools; epoch = n }) count)
 
-  -- rows of no state, and receipts of none
-  pub no_rows : ((i : Inventory) → IsOfState i → ¬ HasRows db tenant.id tenant.epoch i) → (s : TenantState) → ¬ StandsFor db name (Some s)
+  -- rows of no state
+  pub no_rows : ((i : Inventory) → IsOfState i → ¬ HasRows db tenant i) → (s : TenantState) → ¬ StandsFor db name (Some s)
   no_rows none s those = none (inventory_of s) (is_of_state db name s those) (has_rows db name tenant s names those)
-
-  pub no_receipts : ((receipts : Receipts) → ¬ HasReceipts db tenant.id tenant.epoch receipts) → (s : TenantState) → ¬ StandsFor db name (Some s)
-  no_receipts none s those = none s.receipts (has_receipts db name tenant s names those)
 
   not_empty : (A : Type 0) (x : A) (xs all : List A) → all ≡ x ∷ xs → all ≢ []
   not_empty A x xs all is empty = let never = sym is ∙ empty in absurd cc
@@ -85,7 +82,7 @@ same_count all ms ns these those =
 
 module _ (db : Trees) (name : List ℕ) (tenant : Tenant) (names : Names db name (Some tenant)) where
   -- a tenant has as many versions as were read
-  pub as_read : (i : Inventory) (s : TenantState) → HasRows db tenant.id tenant.epoch i → StandsFor db name (Some s) → length i.versions ≡ length s.versions
+  pub as_read : (i : Inventory) (s : TenantState) → HasRows db tenant i → StandsFor db name (Some s) → length i.versions ≡ length s.versions
   as_read i s rows those = same_count (of_tenant maps_table tenant.id db) i.versions s.versions rows.versions (has_rows db name tenant s names those).versions
 
   -- or are remembered

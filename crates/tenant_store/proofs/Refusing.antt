@@ -24,6 +24,3 @@ live_at_ok false x h = refl
 -- a number that went through a machine word is the number
 pub at_word : (P : ℤ → Type 0) (n : ℤ) → SFits w64 n → P (to_z w64 (of_z w64 n)) → P n
 at_word P n fits h = subst P (to_z-of_z w64 n fits) h
-
-pub at_words : (P : ℤ → ℤ → Type 0) (m n : ℤ) → SFits w64 m → SFits w64 n → P (to_z w64 (of_z w64 m)) (to_z w64 (of_z w64 n)) → P m n
-at_words P m n fits also h = at_word (λ k. P k n) m fits (at_word (P (to_z w64 (of_z w64 m))) n also h)

@@ -15,6 +15,7 @@ ghost use Rattle.tenant_state.specs.State.{Inventory as Has, TenantState, invent
 ghost use Rattle.tenant_state.specs.Valid.{is_receipt};
 ghost use Rattle.table_reads.specs.Found.{AreReceipt, Names};
 ghost use Rattle.table_schema.specs.Holds.{rows_with};
+ghost use Rattle.table_schema.specs.Ready.{IsReady};
 ghost use Rattle.tenant_rows.specs.Changes.{HasReceipts, HasRows};
 ghost use Rattle.tenant_rows.specs.Lists.{IsOfState};
 ghost use Rattle.tenant_rows.specs.Rows.{StandsFor, row_of_receipt};
@@ -43,10 +44,10 @@ fn judge<S: Alter>(
 ) -> Result<(), StoreFault>
     requires live { tables.old.1 ≡ false }
     requires names { HasCleanDisk (state S.Store tables.old.0) → Names (state S.Store tables.old.0).now.trees name.now (Some tenant.now) }
-    requires rows { HasCleanDisk (state S.Store tables.old.0) → (i : Has) × IsOfState i × HasRows (state S.Store tables.old.0).now.trees tenant.now.id tenant.now.epoch i × (length i.versions ≡ versions) }
+    requires rows { HasCleanDisk (state S.Store tables.old.0) → (i : Has) × IsOfState i × HasRows (state S.Store tables.old.0).now.trees tenant.now i × (length i.versions ≡ versions) }
     requires judged { HasCleanDisk (state S.Store tables.old.0) → AreJudged (state S.Store tables.old.0).now.trees (get_by_text judged.old) }
-    ensures has { HasCleanDisk (state S.Store tables.new.0) → OnOk result ((receipts : Receipts) × HasReceipts (state S.Store tables.old.0).now.trees tenant.now.id tenant.now.epoch receipts) }
-    ensures damaged { HasCleanDisk (state S.Store tables.new.0) → result ≡ Err StoreFault.Damaged → (receipts : Receipts) → ¬ HasReceipts (state S.Store tables.old.0).now.trees tenant.now.id tenant.now.epoch receipts }
+    ensures has { HasCleanDisk (state S.Store tables.new.0) → OnOk result ((receipts : Receipts) × HasReceipts (state S.Store tables.old.0).now.trees tenant.now receipts) }
+    ensures damaged { HasCleanDisk (state S.Store tables.new.0) → result ≡ Err StoreFault.Damaged → (receipts : Receipts) → ¬ HasReceipts (state S.Store tables.old.0).now.trees tenant.now receipts }
     ensures judged { HasCleanDisk (state S.Store tables.new.0) → AreJudged (state S.Store tables.old.0).now.trees (get_by_text judged.new) }
     ensures kept { HasCleanDisk (state S.Store tables.new.0) → tables.new.1 ≡ false → (state S.Store tables.new.0).now ≡ (state S.Store tables.old.0).now }
     ensures latches { tables.new.1 ≡ is_failed result }
@@ -55,7 +56,7 @@ fn judge<S: Alter>(
     if judged.contains_key(name) {
         return Ok(());
     }
-    judge_receipts(tables, tenant.id, tenant.epoch)?;
+    judge_receipts(tables, tenant)?;
     remember(alloc, judged, name, versions);
     Ok(())
 }
@@ -78,7 +79,7 @@ fn load_tenant<S: Alter>(
     ensures latches { tables.new.1 ≡ is_failed result }
     ensures crash { Survives (state S.Store tables.old.0) (state S.Store tables.new.0) (λ _. ⊥) }
 {
-    let inventory = read_inventory(alloc, tables, tenant.id, tenant.epoch)?;
+    let inventory = read_inventory(alloc, tables, tenant)?;
     judge(alloc, tables, judged, name, tenant, inventory.newest())?;
     Ok(inventory)
 }
@@ -92,6 +93,7 @@ pub fn load<S: Alter>(
 ) -> Result<Option<Rc<Inventory>>, StoreFault>
     requires live { tables.old.1 ≡ false }
     requires judged { HasCleanDisk (state S.Store tables.old.0) → AreJudged (state S.Store tables.old.0).now.trees (get_by_text judged.old) }
+    ensures ready { HasCleanDisk (state S.Store tables.old.0) → IsReady (state S.Store tables.old.0) }
     ensures found { HasCleanDisk (state S.Store tables.new.0) → IfOk result (λ found. HasInventory (StandsFor (state S.Store tables.old.0).now.trees) name.now (option_map (λ r. r.value) found)) }
     ensures damaged { HasCleanDisk (state S.Store tables.new.0) → result ≡ Err StoreFault.Damaged → IsDamaged (StandsFor (state S.Store tables.old.0).now.trees) name.now }
     ensures judged { HasCleanDisk (state S.Store tables.new.0) → AreJudged (state S.Store tables.old.0).now.trees (get_by_text judged.new) }
@@ -122,31 +124,12 @@ fn receipt_in(alloc: Global, row: Option<ReceiptRow>) -> Result<Option<Rc<Receip
     }
 }
 
-/// Reads the receipt that `tenant` has for the request number `number`, or `None` where there is
-/// none.
-fn receipt_of_tenant<S: Alter>(
-    alloc: Global,
-    tables: &mut Tables<S>,
-    tenant: &Tenant,
-    number: &str,
-) -> Result<Option<Rc<Receipt>>, StoreFault>
-    requires live { tables.old.1 ≡ false }
-    requires there { HasCleanDisk (state S.Store tables.old.0) → (receipts : Receipts) × HasReceipts (state S.Store tables.old.0).now.trees tenant.now.id tenant.now.epoch receipts }
-    ensures found { HasCleanDisk (state S.Store tables.new.0) → (receipts : Receipts) → HasReceipts (state S.Store tables.old.0).now.trees tenant.now.id tenant.now.epoch receipts → IfOk result (λ found. option_map (λ r. r.value) found ≡ receipt_of number.now receipts) }
-    ensures damaged { HasCleanDisk (state S.Store tables.new.0) → result ≢ Err StoreFault.Damaged }
-    ensures kept { HasCleanDisk (state S.Store tables.new.0) → tables.new.1 ≡ false → (state S.Store tables.new.0).now ≡ (state S.Store tables.old.0).now }
-    ensures latches { tables.new.1 ≡ is_failed result }
-    ensures crash { Survives (state S.Store tables.old.0) (state S.Store tables.new.0) (λ _. ⊥) }
-{
-    let row = tables.receipt_of(tenant.id, number)?;
-    receipt_in(alloc, row)
-}
-
 /// Reads the row of the tenant with the name. `Err(StoreFault::Damaged)`: there is no tenant with
 /// it, several rows have it, or its row is none that this service writes.
 pub fn tenant_of<S: Alter>(tables: &mut Tables<S>, name: &str) -> Result<Tenant, StoreFault>
     requires live { tables.old.1 ≡ false }
-    requires there { HasCleanDisk (state S.Store tables.old.0) → (s : TenantState) × StandsFor (state S.Store tables.old.0).now.trees name.now (Some s) }
+    requires there { HasCleanDisk (state S.Store tables.old.0) → IsReady (state S.Store tables.old.0) → (s : TenantState) × StandsFor (state S.Store tables.old.0).now.trees name.now (Some s) }
+    ensures ready { HasCleanDisk (state S.Store tables.old.0) → IsReady (state S.Store tables.old.0) }
     ensures names { HasCleanDisk (state S.Store tables.new.0) → IfOk result (λ tenant. Names (state S.Store tables.old.0).now.trees name.now (Some tenant)) }
     ensures damaged { HasCleanDisk (state S.Store tables.new.0) → result ≢ Err StoreFault.Damaged }
     ensures kept { HasCleanDisk (state S.Store tables.new.0) → tables.new.1 ≡ false → (state S.Store tables.new.0).now ≡ (state S.Store tables.old.0).now }
@@ -168,7 +151,8 @@ pub fn find_receipt<S: Alter>(
     number: &str,
 ) -> Result<Option<Rc<Receipt>>, StoreFault>
     requires live { tables.old.1 ≡ false }
-    requires there { HasCleanDisk (state S.Store tables.old.0) → (s : TenantState) × StandsFor (state S.Store tables.old.0).now.trees name.now (Some s) }
+    requires there { HasCleanDisk (state S.Store tables.old.0) → IsReady (state S.Store tables.old.0) → (s : TenantState) × StandsFor (state S.Store tables.old.0).now.trees name.now (Some s) }
+    ensures ready { HasCleanDisk (state S.Store tables.old.0) → IsReady (state S.Store tables.old.0) }
     ensures found { HasCleanDisk (state S.Store tables.new.0) → (s : TenantState) → StandsFor (state S.Store tables.old.0).now.trees name.now (Some s) → IfOk result (λ found. option_map (λ r. r.value) found ≡ receipt_of number.now s.receipts) }
     ensures damaged { HasCleanDisk (state S.Store tables.new.0) → result ≢ Err StoreFault.Damaged }
     ensures kept { HasCleanDisk (state S.Store tables.new.0) → tables.new.1 ≡ false → (state S.Store tables.new.0).now ≡ (state S.Store tables.old.0).now }
@@ -176,7 +160,8 @@ pub fn find_receipt<S: Alter>(
     ensures crash { Survives (state S.Store tables.old.0) (state S.Store tables.new.0) (λ _. ⊥) }
 {
     let tenant = tenant_of(tables, name)?;
-    receipt_of_tenant(alloc, tables, &tenant, number)
+    let row = tables.receipt_of(tenant.id, number)?;
+    receipt_in(alloc, row)
 }
 
 /// Returns the number of versions of `tenant`: as it was remembered, or else by its rows.
@@ -199,6 +184,6 @@ pub fn count_versions<S: Alter>(
     if let Some(versions) = judged.get(name) {
         return Ok(*versions);
     }
-    let inventory = read_inventory(alloc, tables, tenant.id, tenant.epoch)?;
+    let inventory = read_inventory(alloc, tables, tenant)?;
     Ok(inventory.newest())
 }

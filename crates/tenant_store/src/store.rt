@@ -130,8 +130,6 @@ impl<S: Alter> TenantStore for Store<S> {
     }
 
     fn load(&mut self, name: &str) -> Result<Option<Rc<Inventory>>, StoreFault> {
-        // for the prover, which learns from a call what holds of its value
-        let _live = self.tables.is_latched();
         load(self.alloc, &mut self.tables, &mut self.judged, name)
     }
 
@@ -141,30 +139,22 @@ impl<S: Alter> TenantStore for Store<S> {
         number: &str,
     ) -> Result<Option<Rc<Receipt>>, StoreFault> {
         names_stand_for_one_state();
-        // for the prover, which learns from a call what holds of its value
-        let _live = self.tables.is_latched();
         find_receipt(self.alloc, &mut self.tables, name, number)
     }
 
     fn create(&mut self, name: &str) -> Result<(), StoreFault> {
         names_stand_for_one_state();
-        // for the prover, which learns from a call what holds of its value
-        let _live = self.tables.is_latched();
         forget(&mut self.judged, name);
         self.tables.create(name)
     }
 
     fn commit(&mut self, name: &str, change: &Change) -> Result<(), StoreFault> {
         names_stand_for_one_state();
-        // for the prover, which learns from a call what holds of its value
-        let _live = self.tables.is_latched();
         commit(self.alloc, &mut self.tables, &mut self.judged, name, change)
     }
 
     fn remove(&mut self, name: &str) -> Result<(), StoreFault> {
         names_stand_for_one_state();
-        // for the prover, which learns from a call what holds of its value
-        let _live = self.tables.is_latched();
         forget(&mut self.judged, name);
         remove(&mut self.tables, name)
     }

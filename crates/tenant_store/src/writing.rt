@@ -2,6 +2,7 @@
 
 ghost use Rattle.std.specs.Prelude.{◌≡◌, ◌≢◌, length, false, Some, None, Err, OnOk, OnErr};
 ghost use Rattle.std.specs.BTreeMap.{get_by_text};
+ghost use Rattle.table_schema.specs.Ready.{IsReady};
 ghost use Rattle.sqlite.specs.Held.{state};
 ghost use Rattle.sqlite.specs.State.{HasCleanDisk, Survives};
 ghost use Rattle.tenant_core.specs.StoreReply.{is_failed};
@@ -38,8 +39,9 @@ pub fn commit<S: Alter>(
     change: &Change,
 ) -> Result<(), StoreFault>
     requires live { tables.old.1 ≡ false }
-    requires there { HasCleanDisk (state S.Store tables.old.0) → (s : TenantState) × StandsFor (state S.Store tables.old.0).now.trees name.now (Some s) × CanMake change.now s }
+    requires there { HasCleanDisk (state S.Store tables.old.0) → IsReady (state S.Store tables.old.0) → (s : TenantState) × StandsFor (state S.Store tables.old.0).now.trees name.now (Some s) × CanMake change.now s }
     requires judged { HasCleanDisk (state S.Store tables.old.0) → AreJudged (state S.Store tables.old.0).now.trees (get_by_text judged.old) }
+    ensures ready { HasCleanDisk (state S.Store tables.old.0) → IsReady (state S.Store tables.old.0) }
     ensures made { HasCleanDisk (state S.Store tables.new.0) → (s : TenantState) → StandsFor (state S.Store tables.old.0).now.trees name.now (Some s)
         → CanMake change.now s → OnOk result (Turns name.now (Some (after change.now s)) (state S.Store tables.old.0).now.trees (state S.Store tables.new.0).now.trees) }
     ensures kept { HasCleanDisk (state S.Store tables.new.0) → tables.new.1 ≡ false → OnErr result ((state S.Store tables.new.0).now ≡ (state S.Store tables.old.0).now) }
@@ -59,7 +61,8 @@ pub fn commit<S: Alter>(
 /// Removes the tenant with the name, which has to be there, and everything that it has.
 pub fn remove<S: Alter>(tables: &mut Tables<S>, name: &str) -> Result<(), StoreFault>
     requires live { tables.old.1 ≡ false }
-    requires there { HasCleanDisk (state S.Store tables.old.0) → (s : TenantState) × StandsFor (state S.Store tables.old.0).now.trees name.now (Some s) }
+    requires there { HasCleanDisk (state S.Store tables.old.0) → IsReady (state S.Store tables.old.0) → (s : TenantState) × StandsFor (state S.Store tables.old.0).now.trees name.now (Some s) }
+    ensures ready { HasCleanDisk (state S.Store tables.old.0) → IsReady (state S.Store tables.old.0) }
     ensures made { HasCleanDisk (state S.Store tables.new.0) → OnOk result (Turns name.now None (state S.Store tables.old.0).now.trees (state S.Store tables.new.0).now.trees) }
     ensures kept { HasCleanDisk (state S.Store tables.new.0) → tables.new.1 ≡ false → OnErr result ((state S.Store tables.new.0).now ≡ (state S.Store tables.old.0).now) }
     ensures damaged { HasCleanDisk (state S.Store tables.new.0) → result ≢ Err StoreFault.Damaged }

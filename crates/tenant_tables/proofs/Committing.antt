@@ -22,7 +22,7 @@ use Rattle.sqlite_rules.proofs.ListLemmas.{all_has, all_from, some_has, some_fro
 use Rattle.sqlite_tied.specs.Compute.{everything}
 use Rattle.sqlite.specs.Effect.{Database, IsDatabase}
 use Rattle.table_schema.specs.declared.schema.Layout.{Layout}
-use Rattle.table_schema.specs.Layout.{store_schema, IsStoreSchema, receipts_tree, pools_tree, exceptions_tree, to_tenant, tenants_table, maps_table, devices_table, pools_table, receipts_table, exceptions_table}
+use Rattle.table_schema.specs.Layout.{store_schema, receipts_tree, pools_tree, exceptions_tree, to_tenant, tenants_table, maps_table, devices_table, pools_table, receipts_table, exceptions_table}
 use Rattle.table_schema.specs.Holds.{tree_of, rows_in, rows_with, values_of, IsAbsent, AreTables}
 use Rattle.table_schema.proofs.Places.{places}
 use Rattle.tenant_tables.specs.Run.{AreSound, Makes, begun}

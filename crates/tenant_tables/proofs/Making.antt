@@ -4,10 +4,7 @@ use Rattle.std.proofs.Math.Dec.{eqb}
 use Rattle.std.specs.List.{AllByRecursion}
 use Rattle.sqlite_value.specs.declared.value.Value.TheVariants.{Null, Int}
 use Rattle.sqlite_value.specs.Order.{Row, column}
-use Rattle.sqlite_trees.specs.declared.store.Shape.TheVariants.{Table as TableShape}
 use Rattle.sqlite_trees.specs.Tree.{put_row}
-use Rattle.sqlite_trees.specs.View.{IsShaped}
-use Rattle.sqlite_trees.proofs.ListLemmas.{all_weaker}
 use Rattle.sqlite_schema.specs.declared.schema.Keys.TheVariants.{Enforced}
 use Rattle.sqlite_schema.specs.declared.schema.Reference.{Reference}
 use Rattle.sqlite_schema.specs.Rules.{ParentKey, parent_key}
@@ -28,8 +25,7 @@ use Rattle.sqlite.specs.Effect.{Database, IsDatabase}
 use Rattle.sqlite.specs.State.{State, Writes, Executes}
 use Rattle.sqlite.proofs.Callers.{runs_as, one_step}
 use Rattle.table_schema.specs.declared.schema.Layout.TheVariants.{Compact}
-use Rattle.table_schema.specs.Layout.{no_schema, schema_with_devices, store_schema, info_table, tenants_table, sequence_table, maps_table, devices_table, receipts_table, pools_table, exceptions_table, tables_of_tenants}
-use Rattle.table_schema.specs.Holds.{rows_in, AreTables}
+use Rattle.table_schema.specs.Layout.{no_schema, schema_with_devices, store_schema, info_table, tenants_table, sequence_table, maps_table, devices_table, receipts_table, pools_table, exceptions_table}
 use Rattle.table_schema.proofs.Places.{places}
 use Rattle.tenant_tables.specs.Opened.{IsBare}
 use Rattle.tenant_tables.proofs.TableTexts.{Makes, schema_with_info, schema_with_tenants, schema_with_maps, schema_with_receipts, schema_with_pools, first_with_pools, first_with_exceptions, new_is, info_text, tenants_text, maps_text, devices_text, pools_text, exceptions_text, receipts_text, version_text, info_is, tenants_are, sequence_is, maps_are, devices_are, receipts_are, pools_are, exceptions_are, version_is}
@@ -179,9 +175,3 @@ made_bare s0 s1 s2 s3 s4 s5 s6 s7 s8 n1 n2 n3 n4 n5 n6 n7 n8 has one two three f
       );
       sound = last.sound;
     }
-
-pub bare_tables : (db : Database) → IsBare db → AreTables db.trees
-bare_tables db bare = record {
-  tenants = subst (IsShaped TableShape) (sym bare.tenants) (tt, tt);
-  others = all_weaker (λ t. rows_in t db.trees ≡ []) (λ t. IsShaped TableShape (rows_in t db.trees)) (λ t none. subst (IsShaped TableShape) (sym none) (tt, tt)) tables_of_tenants bare.others;
-}

@@ -57,9 +57,3 @@ module _ (layout : Layout) (old new : Trees) (before : Places layout old) (after
 
   pub but_exceptions : Stays (exceptions_tree layout) → OthersStay exceptions_table old new
   but_exceptions same = ((λ _. kept tenants_table 1 before.tenants after.tenants (same.1.0 ((apart layout).exceptions 1 (omega arith)))), ((λ _. kept maps_table 4 before.maps after.maps (same.1.1.1.0 ((apart layout).exceptions 4 (omega arith)))), ((λ _. kept devices_table 6 before.devices after.devices (same.1.1.1.1.0 ((apart layout).exceptions 6 (omega arith)))), ((λ _. kept pools_table (pools_tree layout) before.pools after.pools (same.1.1.1.1.1.1.0 ((apart layout).pools-exceptions))), ((λ _. kept receipts_table (receipts_tree layout) before.receipts after.receipts (same.1.1.1.1.1.0 ((apart layout).receipts-exceptions))), ((λ other. absurd (true≢false other)), tt))))))
-
-  pub but_info : Stays 0 → AllByRecursion (λ t. rows_in t new ≡ rows_in t old) written_tables
-  but_info same = (kept tenants_table 1 before.tenants after.tenants (same.1.0 (λ same. absurd (omega (arith, same)))), (kept maps_table 4 before.maps after.maps (same.1.1.1.0 (λ same. absurd (omega (arith, same)))), (kept devices_table 6 before.devices after.devices (same.1.1.1.1.0 (λ same. absurd (omega (arith, same)))), (kept pools_table (pools_tree layout) before.pools after.pools (same.1.1.1.1.1.1.0 (λ same. (apart layout).pools 0 (omega arith) (sym same))), (kept receipts_table (receipts_tree layout) before.receipts after.receipts (same.1.1.1.1.1.0 (λ same. (apart layout).receipts 0 (omega arith) (sym same))), (kept exceptions_table (exceptions_tree layout) before.exceptions after.exceptions (same.1.1.1.1.1.1.1.0 (λ same. (apart layout).exceptions 0 (omega arith) (sym same))), tt))))))
-
-  pub but_counts : Stays 3 → AllByRecursion (λ t. rows_in t new ≡ rows_in t old) written_tables
-  but_counts same = (kept tenants_table 1 before.tenants after.tenants (same.1.0 (λ same. absurd (omega (arith, same)))), (kept maps_table 4 before.maps after.maps (same.1.1.1.0 (λ same. absurd (omega (arith, same)))), (kept devices_table 6 before.devices after.devices (same.1.1.1.1.0 (λ same. absurd (omega (arith, same)))), (kept pools_table (pools_tree layout) before.pools after.pools (same.1.1.1.1.1.1.0 (λ same. (apart layout).pools 3 (omega arith) (sym same))), (kept receipts_table (receipts_tree layout) before.receipts after.receipts (same.1.1.1.1.1.0 (λ same. (apart layout).receipts 3 (omega arith) (sym same))), (kept exceptions_table (exceptions_tree layout) before.exceptions after.exceptions (same.1.1.1.1.1.1.1.0 (λ same. (apart layout).exceptions 3 (omega arith) (sym same))), tt))))))

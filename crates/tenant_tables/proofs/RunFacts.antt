@@ -4,6 +4,7 @@ use Rattle.std.proofs.Math.Seq.{take-suc}
 use Rattle.sqlite.specs.Store.{Ghosts}
 use Rattle.sqlite.specs.Held.{Held, state}
 use Rattle.sqlite.specs.State.{Executes, ExecutesInside}
+use Rattle.tenant_tables.specs.declared.commit.Accepted.{Accepted}
 use Rattle.tenant_tables.specs.declared.write.Write.{Write}
 use Rattle.std.specs.List.{AllByRecursion}
 use Rattle.table_schema.specs.declared.values.Exception.{Exception}
@@ -11,11 +12,10 @@ use Rattle.table_schema.specs.declared.values.Pool.{Pool}
 use Rattle.table_schema.specs.declared.values.State.{State}
 use Rattle.table_schema.specs.Values.{pool_row, exception_row}
 use Rattle.tenant_tables.specs.declared.write.Write.TheVariants.{Raise, ClearState, AddState, AddException, AddReceipt}
-use Rattle.table_schema.specs.declared.values.Receipt.{Receipt}
 use Rattle.sqlite.specs.Effect.{Database}
 use Rattle.table_schema.specs.Holds.{TenantRows, Holds, Turns}
 use Rattle.tenant_tables.specs.Change.{with_state, with_states, without_key, with_exceptions, Accepts, IsNumber}
-use Rattle.tenant_tables.specs.Run.{AreSound, text_of, params_of, Ran, begun, Inside, state_writes, pool_writes, exception_writes, Makes}
+use Rattle.tenant_tables.specs.Run.{AreSound, text_of, params_of, Ran, begun, Inside, state_writes, pool_writes, exception_writes, writes_with, Makes}
 use Rattle.table_schema.specs.Ready.{IsReady}
 use Rattle.tenant_tables.proofs.Accepting.{does, does_all, IsAbout, accepts, accepted_sound}
 
@@ -56,14 +56,15 @@ pub about_states : (states : List State) (id : ℤ) (w : Write) → IsAbout id w
 about_states [] id w about = (about, tt)
 about_states (s ∷ states) id w about = (refl, (refl, about_states states id w about))
 
-pub accepts_states : {S : Type 0} (g : Ghosts S) (old : Held S) → IsReady (state g old) → (id e : ℤ) (states : List State) (receipt : Receipt) (db : Database) → Makes g (Raise id e ∷ state_writes id states ++ AddReceipt id receipt ∷ []) old db
-    → Accepts id e receipt (with_states states) (state g old).now.trees db.trees × (IsNumber (state g old).now.trees id → AreSound db)
-accepts_states g old ready id e states receipt db made =
-    let writes = state_writes id states ++ AddReceipt id receipt ∷ [] in
-    let about = about_states states id (AddReceipt id receipt) refl in (
-      (λ name rows epoch held same is. subst (λ r. Turns name (λ trees. Holds trees name (record r { epoch = epoch })) (state g old).now.trees db.trees) (does_states states id (AddReceipt id receipt) rows)
-          (accepts g old ready id e writes about db made name rows epoch held same is)),
-      (λ there. accepted_sound g old ready id e writes about db made there.0 there.1 there.2),
+pub accepts_states : {S : Type 0} (g : Ghosts S) (old : Held S) → IsReady (state g old) → (a : Accepted) (states : List State) (db : Database) → Makes g (writes_with a (state_writes a.id states)) old db
+    → Accepts a (with_states states) (state g old).now.trees db.trees × (IsNumber (state g old).now.trees a.id → AreSound db)
+accepts_states g old ready a states db made =
+    let last = AddReceipt a.id a.receipt in
+    let writes = state_writes a.id states ++ last ∷ [] in
+    let about = about_states states a.id last refl in (
+      (λ name rows epoch held same is. subst (λ r. Turns name (λ trees. Holds trees name (record r { epoch = epoch })) (state g old).now.trees db.trees) (does_states states a.id last rows)
+          (accepts g old ready a.id a.epoch writes about db made name rows epoch held same is)),
+      (λ there. accepted_sound g old ready a.id a.epoch writes about db made there.0 there.1 there.2),
     )
 
 -- ---- the writes for exceptions
@@ -88,14 +89,15 @@ about_exceptions : (exceptions : List Exception) (id : ℤ) (w : Write) → IsAb
 about_exceptions [] id w about = (about, tt)
 about_exceptions (e ∷ exceptions) id w about = (refl, about_exceptions exceptions id w about)
 
-pub accepts_exceptions : {S : Type 0} (g : Ghosts S) (old : Held S) → IsReady (state g old) → (id e : ℤ) (pool : Pool) (exceptions : List Exception) (receipt : Receipt) (db : Database)
-    → Makes g (Raise id e ∷ pool_writes id pool ++ exception_writes id exceptions ++ AddReceipt id receipt ∷ []) old db
-    → Accepts id e receipt (with_exceptions pool exceptions) (state g old).now.trees db.trees × (IsNumber (state g old).now.trees id → AreSound db)
-accepts_exceptions g old ready id e pool exceptions receipt db made =
-    let writes = pool_writes id pool ++ exception_writes id exceptions ++ AddReceipt id receipt ∷ [] in
-    let about : AllByRecursion (IsAbout id) writes = (refl, (refl, (refl, about_exceptions exceptions id (AddReceipt id receipt) refl))) in (
+pub accepts_exceptions : {S : Type 0} (g : Ghosts S) (old : Held S) → IsReady (state g old) → (a : Accepted) (pool : Pool) (exceptions : List Exception) (db : Database)
+    → Makes g (writes_with a (pool_writes a.id pool ++ exception_writes a.id exceptions)) old db
+    → Accepts a (with_exceptions pool exceptions) (state g old).now.trees db.trees × (IsNumber (state g old).now.trees a.id → AreSound db)
+accepts_exceptions g old ready a pool exceptions db made =
+    let last = AddReceipt a.id a.receipt in
+    let writes = pool_writes a.id pool ++ exception_writes a.id exceptions ++ last ∷ [] in
+    let about : AllByRecursion (IsAbout a.id) writes = (refl, (refl, (refl, about_exceptions exceptions a.id last refl))) in (
       (λ name rows epoch held same is. subst (λ r. Turns name (λ trees. Holds trees name (record r { epoch = epoch })) (state g old).now.trees db.trees)
-          (does_exceptions exceptions id (AddReceipt id receipt) (record rows { pools = pool_row pool ∷ without_key pool.id rows.pools; exceptions = without_key pool.id rows.exceptions }))
-          (accepts g old ready id e writes about db made name rows epoch held same is)),
-      (λ there. accepted_sound g old ready id e writes about db made there.0 there.1 there.2),
+          (does_exceptions exceptions a.id last (record rows { pools = pool_row pool ∷ without_key pool.id rows.pools; exceptions = without_key pool.id rows.exceptions }))
+          (accepts g old ready a.id a.epoch writes about db made name rows epoch held same is)),
+      (λ there. accepted_sound g old ready a.id a.epoch writes about db made there.0 there.1 there.2),
     )

@@ -13,6 +13,7 @@ use Rattle.table_schema.specs.declared.values.Exception.{Exception}
 use Rattle.table_schema.specs.declared.values.Pool.{Pool}
 use Rattle.table_schema.specs.declared.values.Receipt.{Receipt}
 use Rattle.table_schema.specs.declared.values.State.{State}
+use Rattle.tenant_tables.specs.declared.commit.Accepted.{Accepted}
 
 -- the rows of a new tenant
 abbrev pub fresh_rows : TenantRows
@@ -54,12 +55,12 @@ with_receipt receipt rows = record rows { receipts = receipt_row receipt ∷ row
 abbrev pub IsNumber : Trees → ℤ → Type 0
 IsNumber db id = (name : List ℕ) × (epoch : ℕ) × IsTenant db name id epoch
 
--- The rows of the tenant with the number `id` are changed by `change`, and it has the receipt and
--- the epoch. The rows of each other name are unchanged.
-abbrev pub Accepts : ℤ → ℤ → Receipt → (TenantRows → TenantRows) → Trees → Trees → Type 0
-Accepts id epoch receipt change old new =
-    (name : List ℕ) (rows : TenantRows) (e : ℕ) → (held : Holds old name rows) → held.id ≡ id → epoch ≡ pos e
-    → Turns name (λ db. Holds db name (record (with_receipt receipt (change rows)) { epoch = e })) old new
+-- The rows of the tenant with the number are changed by `change`, and it has the receipt and the
+-- epoch. The rows of each other name are unchanged.
+abbrev pub Accepts : Accepted → (TenantRows → TenantRows) → Trees → Trees → Type 0
+Accepts a change old new =
+    (name : List ℕ) (rows : TenantRows) (e : ℕ) → (held : Holds old name rows) → held.id ≡ a.id → a.epoch ≡ pos e
+    → Turns name (λ db. Holds db name (record (with_receipt a.receipt (change rows)) { epoch = e })) old new
 
 -- The name has a new tenant, and the rows of each other name are unchanged.
 abbrev pub Creates : List ℕ → Trees → Trees → Type 0

@@ -1,5 +1,5 @@
 -- What several writes in one transaction make of a database.
-use Rattle.std.specs.Prelude.{◌≡◌, ℕ, ℤ, List, [], ◌∷◌, codes, Ok, IsTrue, true}
+use Rattle.std.specs.Prelude.{◌≡◌, ℕ, ℤ, List, [], ◌∷◌, ◌++◌, codes, Ok, IsTrue, true}
 use Rattle.sqlite_value.specs.declared.value.Value.TheVariants.{Int, Text as Words}
 use Rattle.sqlite_value.specs.Order.{Row}
 use Rattle.sqlite.specs.Store.{Ghosts}
@@ -11,6 +11,7 @@ use Rattle.table_schema.specs.Holds.{AreTables}
 use Rattle.table_schema.specs.declared.values.Exception.{Exception}
 use Rattle.table_schema.specs.declared.values.Pool.{Pool}
 use Rattle.table_schema.specs.declared.values.State.{State}
+use Rattle.tenant_tables.specs.declared.commit.Accepted.{Accepted}
 use Rattle.tenant_tables.specs.declared.write.Write.{Write}
 use Rattle.tenant_tables.specs.declared.write.Write.TheVariants.{Plain, Create, Remove, Raise, AddVersion, ClearState, AddState, AddPool, RemovePool, AddException, ClearExceptions, AddReceipt}
 
@@ -69,6 +70,10 @@ pool_writes id pool = ClearExceptions id pool.id ∷ RemovePool id pool.id ∷ A
 abbrev pub exception_writes : ℤ → List Exception → List Write
 exception_writes id [] = []
 exception_writes id (exception ∷ exceptions) = AddException id exception ∷ exception_writes id exceptions
+
+-- the writes of an accepted change, between that of the epoch and that of the receipt
+abbrev pub writes_with : Accepted → List Write → List Write
+writes_with a writes = Raise a.id a.epoch ∷ writes ++ AddReceipt a.id a.receipt ∷ []
 
 module _ {S : Type 0} (g : Ghosts S) where
   -- each write runs once, in turn

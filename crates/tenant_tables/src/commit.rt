@@ -1,11 +1,11 @@
 //! Changes of tenants. An accepted change is written with its epoch and its receipt.
 
-ghost use Rattle.std.specs.Prelude.{◌≡◌, ◌≢◌, ◌↔◌, ◌++◌, [], ◌∷◌, true, false, IfOk, OnOk, OnErr, Err};
+ghost use Rattle.std.specs.Prelude.{◌≡◌, ◌≢◌, ◌↔◌, ◌++◌, true, false, IfOk, OnOk, OnErr, Err};
 ghost use Rattle.sqlite.specs.Held.{state};
 ghost use Rattle.sqlite.specs.State.{HasCleanDisk, Survives};
-ghost use Rattle.tenant_tables.specs.declared.write.Write.TheVariants.{Raise, AddReceipt};
 ghost use Rattle.table_schema.specs.Holds.{IsAbsent};
-ghost use Rattle.tenant_tables.specs.Run.{state_writes, pool_writes, exception_writes};
+ghost use Rattle.table_schema.specs.Ready.{IsReady};
+ghost use Rattle.tenant_tables.specs.Run.{state_writes, pool_writes, exception_writes, writes_with};
 ghost use Rattle.tenant_tables.specs.Change.{Accepts, Creates, Drops, IsNumber, with_version, with_states, with_pool, without_pool, with_exceptions};
 
 use crate::tables::Tables;
@@ -15,18 +15,26 @@ use std::alloc::{AllocError, Global};
 use store_faults::StoreFault;
 use table_schema::values::{Exception, Pool, Receipt, State};
 
+/// What each accepted change writes beside what it made: the number of its tenant, the tenant's new
+/// epoch, and the receipt.
+#[derive(Clone, Copy)]
+pub struct Accepted<'a> {
+    pub id: i64,
+    pub epoch: i64,
+    pub receipt: Receipt<'a>,
+}
+
 /// Returns the writes that set the states of devices, the epoch and the receipt.
 ///
 /// `Err(AllocError)`: an allocation failed; nothing is changed.
 fn writes_for<'a>(
     alloc: Global,
-    id: i64,
-    epoch: i64,
+    accepted: &Accepted<'a>,
     states: &[State],
-    receipt: &Receipt<'a>,
 ) -> Result<Vec<Write<'a>>, AllocError>
-    ensures { IfOk result (λ writes. writes.items ≡ Raise id epoch ∷ state_writes id states.now ++ AddReceipt id receipt.now ∷ []) }
+    ensures { IfOk result (λ writes. writes.items ≡ writes_with accepted.now (state_writes accepted.now.id states.now)) }
 {
+    let Accepted { id, epoch, receipt } = *accepted;
     let mut writes = Vec::new(alloc);
     writes.push(Write::Raise { id, epoch })?;
     for state in states {
@@ -36,10 +44,7 @@ fn writes_for<'a>(
         })?;
         writes.push(Write::AddState { id, state: *state })?;
     }
-    writes.push(Write::AddReceipt {
-        id,
-        receipt: *receipt,
-    })?;
+    writes.push(Write::AddReceipt { id, receipt })?;
     Ok(writes)
 }
 
@@ -48,14 +53,13 @@ fn writes_for<'a>(
 /// `Err(AllocError)`: an allocation failed; nothing is changed.
 fn exception_writes_for<'a>(
     alloc: Global,
-    id: i64,
-    epoch: i64,
+    accepted: &Accepted<'a>,
     pool: &Pool<'a>,
     exceptions: &[Exception],
-    receipt: &Receipt<'a>,
 ) -> Result<Vec<Write<'a>>, AllocError>
-    ensures { IfOk result (λ writes. writes.items ≡ Raise id epoch ∷ pool_writes id pool.now ++ exception_writes id exceptions.now ++ AddReceipt id receipt.now ∷ []) }
+    ensures { IfOk result (λ writes. writes.items ≡ writes_with accepted.now (pool_writes accepted.now.id pool.now ++ exception_writes accepted.now.id exceptions.now)) }
 {
+    let Accepted { id, epoch, receipt } = *accepted;
     let mut writes = Vec::new(alloc);
     writes.push(Write::Raise { id, epoch })?;
     writes.push(Write::ClearExceptions { id, pool: pool.id })?;
@@ -67,10 +71,7 @@ fn exception_writes_for<'a>(
             exception: *exception,
         })?;
     }
-    writes.push(Write::AddReceipt {
-        id,
-        receipt: *receipt,
-    })?;
+    writes.push(Write::AddReceipt { id, receipt })?;
     Ok(writes)
 }
 
@@ -81,7 +82,8 @@ impl<S: Alter> Tables<S> {
     /// `Err(StoreFault::Failed)`: the tables are latched.
     pub fn create(&mut self, name: &str) -> Result<(), StoreFault>
         requires live { self.old.1 ≡ false }
-        requires absent { HasCleanDisk (state S.Store self.old.0) → IsAbsent (state S.Store self.old.0).now.trees name.now }
+        requires absent { HasCleanDisk (state S.Store self.old.0) → IsReady (state S.Store self.old.0) → IsAbsent (state S.Store self.old.0).now.trees name.now }
+        ensures ready { HasCleanDisk (state S.Store self.old.0) → IsReady (state S.Store self.old.0) }
         ensures done { HasCleanDisk (state S.Store self.new.0) → OnOk result (Creates name.now (state S.Store self.old.0).now.trees (state S.Store self.new.0).now.trees) }
         ensures kept { HasCleanDisk (state S.Store self.new.0) → self.new.1 ≡ false → OnErr result ((state S.Store self.new.0).now ≡ (state S.Store self.old.0).now) }
         ensures latches { self.new.1 ≡ true ↔ result ≡ Err StoreFault.Failed }
@@ -107,143 +109,126 @@ impl<S: Alter> Tables<S> {
         self.write(&[Write::Remove { id }])
     }
 
-    /// Adds a version of the map. `id` is the tenant's number, and `epoch` the new one.
+    /// Adds a version of the map of the tenant, with what each accepted change writes.
     ///
     /// `Err(StoreFault::NoMemory)`, `Err(StoreFault::Full)`: nothing is changed.
     /// `Err(StoreFault::Failed)`: the tables are latched.
     pub fn commit_version<'a>(
         &mut self,
-        id: i64,
-        epoch: i64,
+        accepted: &Accepted<'a>,
         version: i64,
         text: &'a str,
-        receipt: &Receipt<'a>,
     ) -> Result<(), StoreFault>
         requires live { self.old.1 ≡ false }
-        requires there { HasCleanDisk (state S.Store self.old.0) → IsNumber (state S.Store self.old.0).now.trees id }
-        ensures done { HasCleanDisk (state S.Store self.new.0) → OnOk result (Accepts id epoch receipt.now (with_version version text.now) (state S.Store self.old.0).now.trees (state S.Store self.new.0).now.trees) }
+        requires there { HasCleanDisk (state S.Store self.old.0) → IsNumber (state S.Store self.old.0).now.trees accepted.now.id }
+        ensures done { HasCleanDisk (state S.Store self.new.0) → OnOk result (Accepts accepted.now (with_version version text.now) (state S.Store self.old.0).now.trees (state S.Store self.new.0).now.trees) }
         ensures kept { HasCleanDisk (state S.Store self.new.0) → self.new.1 ≡ false → OnErr result ((state S.Store self.new.0).now ≡ (state S.Store self.old.0).now) }
         ensures latches { self.new.1 ≡ true ↔ result ≡ Err StoreFault.Failed }
         ensures rows { result ≢ Err StoreFault.Damaged }
-        ensures crash { Survives (state S.Store self.old.0) (state S.Store self.new.0) (Accepts id epoch receipt.now (with_version version text.now) (state S.Store self.old.0).now.trees) }
+        ensures crash { Survives (state S.Store self.old.0) (state S.Store self.new.0) (Accepts accepted.now (with_version version text.now) (state S.Store self.old.0).now.trees) }
     {
+        let Accepted { id, epoch, receipt } = *accepted;
         self.write(&[
             Write::Raise { id, epoch },
             Write::AddVersion { id, version, text },
-            Write::AddReceipt {
-                id,
-                receipt: *receipt,
-            },
+            Write::AddReceipt { id, receipt },
         ])
     }
 
-    /// Sets the states of devices, each in place of an earlier one. `id` is the tenant's number,
-    /// and `epoch` the new one.
+    /// Sets the states of devices, each in place of an earlier one, with what each accepted change
+    /// writes.
     ///
     /// `Err(StoreFault::NoMemory)`, `Err(StoreFault::Full)`: nothing is changed.
     /// `Err(StoreFault::Failed)`: the tables are latched.
     pub fn commit_states<'a>(
         &mut self,
-        id: i64,
-        epoch: i64,
+        accepted: &Accepted<'a>,
         states: &[State],
-        receipt: &Receipt<'a>,
     ) -> Result<(), StoreFault>
         requires live { self.old.1 ≡ false }
-        requires there { HasCleanDisk (state S.Store self.old.0) → IsNumber (state S.Store self.old.0).now.trees id }
-        ensures done { HasCleanDisk (state S.Store self.new.0) → OnOk result (Accepts id epoch receipt.now (with_states states.now) (state S.Store self.old.0).now.trees (state S.Store self.new.0).now.trees) }
+        requires there { HasCleanDisk (state S.Store self.old.0) → IsNumber (state S.Store self.old.0).now.trees accepted.now.id }
+        ensures done { HasCleanDisk (state S.Store self.new.0) → OnOk result (Accepts accepted.now (with_states states.now) (state S.Store self.old.0).now.trees (state S.Store self.new.0).now.trees) }
         ensures kept { HasCleanDisk (state S.Store self.new.0) → self.new.1 ≡ false → OnErr result ((state S.Store self.new.0).now ≡ (state S.Store self.old.0).now) }
         ensures latches { self.new.1 ≡ true ↔ result ≡ Err StoreFault.Failed }
         ensures rows { result ≢ Err StoreFault.Damaged }
-        ensures crash { Survives (state S.Store self.old.0) (state S.Store self.new.0) (Accepts id epoch receipt.now (with_states states.now) (state S.Store self.old.0).now.trees) }
+        ensures crash { Survives (state S.Store self.old.0) (state S.Store self.new.0) (Accepts accepted.now (with_states states.now) (state S.Store self.old.0).now.trees) }
     {
-        let writes = writes_for(self.alloc, id, epoch, states, receipt)?;
+        let writes = writes_for(self.alloc, accepted, states)?;
         self.write(&writes)
     }
 
-    /// Adds a pool. `id` is the tenant's number, and `epoch` the new one.
+    /// Adds a pool, with what each accepted change writes.
     ///
     /// `Err(StoreFault::NoMemory)`, `Err(StoreFault::Full)`: nothing is changed.
     /// `Err(StoreFault::Failed)`: the tables are latched.
     pub fn commit_pool<'a>(
         &mut self,
-        id: i64,
-        epoch: i64,
+        accepted: &Accepted<'a>,
         pool: &Pool<'a>,
-        receipt: &Receipt<'a>,
     ) -> Result<(), StoreFault>
         requires live { self.old.1 ≡ false }
-        requires there { HasCleanDisk (state S.Store self.old.0) → IsNumber (state S.Store self.old.0).now.trees id }
-        ensures done { HasCleanDisk (state S.Store self.new.0) → OnOk result (Accepts id epoch receipt.now (with_pool pool.now) (state S.Store self.old.0).now.trees (state S.Store self.new.0).now.trees) }
+        requires there { HasCleanDisk (state S.Store self.old.0) → IsNumber (state S.Store self.old.0).now.trees accepted.now.id }
+        ensures done { HasCleanDisk (state S.Store self.new.0) → OnOk result (Accepts accepted.now (with_pool pool.now) (state S.Store self.old.0).now.trees (state S.Store self.new.0).now.trees) }
         ensures kept { HasCleanDisk (state S.Store self.new.0) → self.new.1 ≡ false → OnErr result ((state S.Store self.new.0).now ≡ (state S.Store self.old.0).now) }
         ensures latches { self.new.1 ≡ true ↔ result ≡ Err StoreFault.Failed }
         ensures rows { result ≢ Err StoreFault.Damaged }
-        ensures crash { Survives (state S.Store self.old.0) (state S.Store self.new.0) (Accepts id epoch receipt.now (with_pool pool.now) (state S.Store self.old.0).now.trees) }
+        ensures crash { Survives (state S.Store self.old.0) (state S.Store self.new.0) (Accepts accepted.now (with_pool pool.now) (state S.Store self.old.0).now.trees) }
     {
+        let Accepted { id, epoch, receipt } = *accepted;
         self.write(&[
             Write::Raise { id, epoch },
             Write::AddPool { id, pool: *pool },
-            Write::AddReceipt {
-                id,
-                receipt: *receipt,
-            },
+            Write::AddReceipt { id, receipt },
         ])
     }
 
-    /// Sets the row of a pool and its exceptions, in place of the earlier ones. `id` is the
-    /// tenant's number, and `epoch` the new one. `pool.pairs` is to be the number of the
-    /// exceptions, each of which names the pool.
+    /// Sets the row of a pool and its exceptions, in place of the earlier ones, with what each
+    /// accepted change writes. `pool.pairs` is to be the number of the exceptions, each of which
+    /// names the pool.
     ///
     /// `Err(StoreFault::NoMemory)`, `Err(StoreFault::Full)`: nothing is changed.
     /// `Err(StoreFault::Failed)`: the tables are latched.
     pub fn commit_exceptions<'a>(
         &mut self,
-        id: i64,
-        epoch: i64,
+        accepted: &Accepted<'a>,
         pool: &Pool<'a>,
         exceptions: &[Exception],
-        receipt: &Receipt<'a>,
     ) -> Result<(), StoreFault>
         requires live { self.old.1 ≡ false }
-        requires there { HasCleanDisk (state S.Store self.old.0) → IsNumber (state S.Store self.old.0).now.trees id }
-        ensures done { HasCleanDisk (state S.Store self.new.0) → OnOk result (Accepts id epoch receipt.now (with_exceptions pool.now exceptions.now) (state S.Store self.old.0).now.trees (state S.Store self.new.0).now.trees) }
+        requires there { HasCleanDisk (state S.Store self.old.0) → IsNumber (state S.Store self.old.0).now.trees accepted.now.id }
+        ensures done { HasCleanDisk (state S.Store self.new.0) → OnOk result (Accepts accepted.now (with_exceptions pool.now exceptions.now) (state S.Store self.old.0).now.trees (state S.Store self.new.0).now.trees) }
         ensures kept { HasCleanDisk (state S.Store self.new.0) → self.new.1 ≡ false → OnErr result ((state S.Store self.new.0).now ≡ (state S.Store self.old.0).now) }
         ensures latches { self.new.1 ≡ true ↔ result ≡ Err StoreFault.Failed }
         ensures rows { result ≢ Err StoreFault.Damaged }
-        ensures crash { Survives (state S.Store self.old.0) (state S.Store self.new.0) (Accepts id epoch receipt.now (with_exceptions pool.now exceptions.now) (state S.Store self.old.0).now.trees) }
+        ensures crash { Survives (state S.Store self.old.0) (state S.Store self.new.0) (Accepts accepted.now (with_exceptions pool.now exceptions.now) (state S.Store self.old.0).now.trees) }
     {
-        let writes = exception_writes_for(self.alloc, id, epoch, pool, exceptions, receipt)?;
+        let writes = exception_writes_for(self.alloc, accepted, pool, exceptions)?;
         self.write(&writes)
     }
 
-    /// Removes the pool with the id, and its exceptions. `id` is the tenant's number, and `epoch`
-    /// the new one.
+    /// Removes the pool with the id, and its exceptions, with what each accepted change writes.
     ///
     /// `Err(StoreFault::NoMemory)`, `Err(StoreFault::Full)`: nothing is changed.
     /// `Err(StoreFault::Failed)`: the tables are latched.
     pub fn commit_no_pool<'a>(
         &mut self,
-        id: i64,
-        epoch: i64,
+        accepted: &Accepted<'a>,
         pool: i64,
-        receipt: &Receipt<'a>,
     ) -> Result<(), StoreFault>
         requires live { self.old.1 ≡ false }
-        requires there { HasCleanDisk (state S.Store self.old.0) → IsNumber (state S.Store self.old.0).now.trees id }
-        ensures done { HasCleanDisk (state S.Store self.new.0) → OnOk result (Accepts id epoch receipt.now (without_pool pool) (state S.Store self.old.0).now.trees (state S.Store self.new.0).now.trees) }
+        requires there { HasCleanDisk (state S.Store self.old.0) → IsNumber (state S.Store self.old.0).now.trees accepted.now.id }
+        ensures done { HasCleanDisk (state S.Store self.new.0) → OnOk result (Accepts accepted.now (without_pool pool) (state S.Store self.old.0).now.trees (state S.Store self.new.0).now.trees) }
         ensures kept { HasCleanDisk (state S.Store self.new.0) → self.new.1 ≡ false → OnErr result ((state S.Store self.new.0).now ≡ (state S.Store self.old.0).now) }
         ensures latches { self.new.1 ≡ true ↔ result ≡ Err StoreFault.Failed }
         ensures rows { result ≢ Err StoreFault.Damaged }
-        ensures crash { Survives (state S.Store self.old.0) (state S.Store self.new.0) (Accepts id epoch receipt.now (without_pool pool) (state S.Store self.old.0).now.trees) }
+        ensures crash { Survives (state S.Store self.old.0) (state S.Store self.new.0) (Accepts accepted.now (without_pool pool) (state S.Store self.old.0).now.trees) }
     {
+        let Accepted { id, epoch, receipt } = *accepted;
         self.write(&[
             Write::Raise { id, epoch },
             Write::ClearExceptions { id, pool },
             Write::RemovePool { id, pool },
-            Write::AddReceipt {
-                id,
-                receipt: *receipt,
-            },
+            Write::AddReceipt { id, receipt },
         ])
     }
 }

@@ -2,7 +2,7 @@
 //! at all.
 #![tactic(auto)]
 
-mod commit;
+pub mod commit;
 mod open;
 mod reopen;
 pub mod tables;

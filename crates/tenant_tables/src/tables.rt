@@ -154,6 +154,7 @@ impl<S: Alter> Tables<S> {
     /// this service writes. `Err(StoreFault::Failed)`: the tables are latched.
     pub fn find(&mut self, name: &str) -> Result<Option<Tenant>, StoreFault>
         requires live { self.old.1 ≡ false }
+        ensures ready { HasCleanDisk (state S.Store self.old.0) → IsReady (state S.Store self.old.0) }
         ensures found { HasCleanDisk (state S.Store self.new.0) → IfOk result (Names (state S.Store self.old.0).now.trees name.now) }
         ensures damaged { HasCleanDisk (state S.Store self.new.0) → result ≡ Err StoreFault.Damaged → (tenant : _) → ¬ Names (state S.Store self.old.0).now.trees name.now tenant }
         ensures full { result ≢ Err StoreFault.Full }

@@ -21,13 +21,11 @@ AreInOrder p slots starts =
 
 -- what is stored are answers of the pool's rule
 pub record AreAnswers (p : PoolOnMap) (a : Answers) : Type 0 where
-  pub count : a.places.count ≡ p.pool.pgp_num
   pub some : 0 < p.pool.pgp_num
   pub size : p.pool.size ≤ SIZE_LIMIT
   pub each : AreInOrder p a.slots.items a.starts.items
 
 -- what is stored is whether the device is in traces
 pub record AreTraced (p : PoolOnMap) (device : ℕ) (t : Traced) : Type 0 where
-  pub count : t.places.count ≡ p.pool.pgp_num
   pub some : 0 < p.pool.pgp_num
   pub each : (place : ℕ) → place < length t.found.items → slice_index_or t.found.items place false ≡ has_number (trace_on p place) device

@@ -1,9 +1,9 @@
 -- Counts by the id of a device.
-use Rattle.std.specs.Prelude.{◌≡◌, ◌<◌, ◌+◌, ◌^◌, ◌&&◌, ℕ, Bool, true, false, List, [], ◌∷◌, Some, None, length, filter, max, slice_index_or, if◌then◌else◌}
+use Rattle.std.specs.Prelude.{◌≡◌, ◌<◌, ◌+◌, ◌^◌, ◌&&◌, ℕ, Bool, true, false, List, [], ◌∷◌, Some, None, length, filter, is_some, max, slice_index_or, if◌then◌else◌}
 use Rattle.crush_map.specs.declared.draft.Device.{Device}
 use Rattle.crush_select.specs.Firstn.{has, slot_has}
 use Rattle.crush_select.specs.Marks.{Slot}
-use Rattle.crush_pool.specs.Placements.{primary_of, up_of}
+use Rattle.crush_pool.specs.Placements.{primary_of}
 use Rattle.crush_pool.specs.Exceptions.{device_item}
 use Rattle.crush_report.specs.Usage.{entries_of, groups_of, primaries_of, entry_count, permille}
 use Rattle.crush_report.specs.declared.rows.UsageRow.{UsageRow}
@@ -26,23 +26,23 @@ abbrev pub is_again : Slot → List Slot → Bool
 is_again None others = false
 is_again (Some item) others = has others item
 
--- ---- what is up of an answer counts
+-- ---- what one up list counts
 
 -- for a device: in how many of one list it is, ..
-abbrev pub groups_in : List Bool → ℕ → List Slot → ℕ
-groups_in flags id raw = if has (up_of false flags raw) (device_item id) then 1 else 0
+abbrev pub groups_in : ℕ → List Slot → ℕ
+groups_in id up = if has up (device_item id) then 1 else 0
 
 -- .. how many entries it is ..
-abbrev pub entries_in : List Bool → ℕ → List Slot → ℕ
-entries_in flags id raw = length (filter (slot_has (device_item id)) (up_of false flags raw))
+abbrev pub entries_in : ℕ → List Slot → ℕ
+entries_in id up = length (filter (slot_has (device_item id)) up)
 
 -- .. and of how many lists it is the primary, where no entry was counted before
-abbrev pub primaries_in : Bool → List Bool → ℕ → List Slot → ℕ
-primaries_in first flags id raw = if slot_has (device_item id) (primary_of (up_of false flags raw)) && first then 1 else 0
+abbrev pub primaries_in : Bool → ℕ → List Slot → ℕ
+primaries_in first id up = if slot_has (device_item id) (primary_of up) && first then 1 else 0
 
--- how many entries are up
-abbrev pub filled_in : List Bool → List Slot → ℕ
-filled_in flags raw = length (up_of false flags raw)
+-- how many entries aren't none
+abbrev pub filled_in : List Slot → ℕ
+filled_in up = length (filter is_some up)
 
 -- ---- what is counted
 
@@ -59,14 +59,14 @@ pub record HasSameLengths (before now : TallyView) : Type 0 where
   pub entries : length now.entries ≡ length before.entries
   pub primaries : length now.primaries ≡ length before.primaries
 
--- what was counted, with the rest of an answer, is all of the answer; `first` says that no entry
--- was counted yet
-pub record IsCounting (flags : List Bool) (raw : List Slot) (first : Bool) (before : TallyView) (rest : List Slot) (now : TallyView) : Type 0 where
+-- what was counted, with the rest of an up list, is all of the list; `first` says that no entry was
+-- counted yet
+pub record IsCounting (up : List Slot) (first : Bool) (before : TallyView) (rest : List Slot) (now : TallyView) : Type 0 where
   pub lens : HasSameLengths before now
-  pub groups : (id : ℕ) → id < length before.groups → count_at now.groups id + groups_in flags id rest ≡ count_at before.groups id + groups_in flags id raw
-  pub entries : (id : ℕ) → id < length before.entries → count_at now.entries id + entries_in flags id rest ≡ count_at before.entries id + entries_in flags id raw
-  pub primaries : (id : ℕ) → id < length before.primaries → count_at now.primaries id + primaries_in first flags id rest ≡ count_at before.primaries id + primaries_in true flags id raw
-  pub filled : now.filled + filled_in flags rest ≡ before.filled + filled_in flags raw
+  pub groups : (id : ℕ) → id < length before.groups → count_at now.groups id + groups_in id rest ≡ count_at before.groups id + groups_in id up
+  pub entries : (id : ℕ) → id < length before.entries → count_at now.entries id + entries_in id rest ≡ count_at before.entries id + entries_in id up
+  pub primaries : (id : ℕ) → id < length before.primaries → count_at now.primaries id + primaries_in first id rest ≡ count_at before.primaries id + primaries_in true id up
+  pub filled : now.filled + filled_in rest ≡ before.filled + filled_in up
 
 -- it is counted of the up lists, for the devices whose ids are below a bound
 pub record IsTally (bound : ℕ) (ups : List (List Slot)) (t : TallyView) : Type 0 where

@@ -9,7 +9,7 @@ use Rattle.cache_tests.proofs.asking.ask_with.Goals as goal
 pub answer_of-requires : goal.answer_of-requires
 answer_of-requires g c =
     let p : PoolOnMap = record { map = c.args.map.now; states = c.as_slice.result.now; pool = c.deref.result.now; pairs = c.exceptions.result.now } in
-    let placer : p ≡ c.in-Some.placer = same_placer _ p c.in-Some.placer (sym c.new.ensures ∙ c.in-Some.is) in
+    let placer : p ≡ c.in-Some.placer = same_placer _ p c.in-Some.placer (sym c.new.ensures.value ∙ c.in-Some.is) in
     let states = sym c.as_slice.ensures in
     let pool = sym c.deref.ensures in
     let pairs = sym c.exceptions.ensures in

@@ -1,4 +1,5 @@
-use Rattle.std.proofs.Common.{◌*◌, rules, arith, ◌≡◌, ◌≤◌, sym, ◌∙◌}
+use Rattle.std.proofs.Common.{rules, ◌≡◌, ap, sym, ◌∙◌}
+use Rattle.crush_pool.specs.Placers.{PoolOnMap}
 use Rattle.crush_report.specs.Moves.{move_between}
 use Rattle.crush_report.specs.OnMaps.{up_on}
 use Rattle.crush_report.proofs.Groups.{moves_more}
@@ -9,8 +10,8 @@ pub loop-group-preserved : goal.loop-group-preserved
 loop-group-preserved c =
     let n = c.loop-group.group in
     let more = moves_more (up_on c.args.from.now) (up_on c.args.to.now) n in
-    let old : c.deref.result.now ≡ up_on c.args.from.now n = c.deref.ensures.value ∙ c.in_ok-set_up_of.ensures.up in
-    let new : c.deref-in-loop-group.result.now ≡ up_on c.args.to.now n = c.deref-in-loop-group.ensures.value ∙ c.in_ok-set_up_of-2.ensures.up in
+    let old : c.as_slice.result.now ≡ up_on c.args.from.now n = c.as_slice.ensures.value ∙ (c.in_ok-set_up.ensures.up ∙ ap (λ (p : PoolOnMap). up_on p n) c.loop-group.invariant.first) in
+    let new : c.as_slice-in-loop-group.result.now ≡ up_on c.args.to.now n = c.as_slice-in-loop-group.ensures.value ∙ (c.in_ok-set_up-2.ensures.up ∙ ap (λ (p : PoolOnMap). up_on p n) c.loop-group.invariant.second) in
     let row : c.in_ok-moved.moved ≡ move_between n (up_on c.args.from.now n) (up_on c.args.to.now n) = rw (old, new) at c.in_ok-moved.ensures in
     elim c.match-moved.branch [
       | in-Some+in_ok-push w ↦
@@ -20,11 +21,3 @@ loop-group-preserved c =
           (let none = rw (sym row ∙ w.in_default.is) at more in
           search (rules, none))
     ]
-
-pub returns : goal.returns
-returns c =
-    let n = c.loop-group.group in
-    let end : n ≤ c.args.from.now.pool.pg_num = rw (c.parts.ensures.same ∙ c.pool.ensures) at c.loop-group.auto.group-end in
-    let above : c.args.from.now.pool.pg_num ≤ n = rw (c.parts.ensures.same ∙ c.pool.ensures) at c.loop-group-test.false in
-    let all : n ≡ c.args.from.now.pool.pg_num = omega (arith, end, above) in
-    rw all at (c.new.ensures ∙ c.loop-group.invariant.rows)

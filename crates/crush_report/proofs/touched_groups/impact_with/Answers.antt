@@ -30,8 +30,8 @@ pub returns : goal.returns
 returns c =
     let p = c.args.placer.now in
     let n = c.loop-group.group in
-    let end : n ≤ p.pool.pg_num = rw (c.parts.ensures.same ∙ c.pool.ensures) at c.loop-group.auto.group-end in
-    let above : p.pool.pg_num ≤ n = rw (c.parts.ensures.same ∙ c.pool.ensures) at c.loop-group-test.false in
+    let end : n ≤ p.pool.pg_num = rw c.pool_parts.ensures.same at c.loop-group.auto.group-end in
+    let above : p.pool.pg_num ≤ n = rw c.pool_parts.ensures.same at c.loop-group-test.false in
     let all : n ≡ p.pool.pg_num = omega (arith, end, above) in
     let found = rw all at (c.new.ensures ∙ c.loop-group.invariant.found) in
-    rw found (impact_on p c.args.device c.map-map.ensures.rule)
+    rw found (impact_on p c.args.device c.tables.ensures.rule)

@@ -19,7 +19,7 @@ pub returns-in-Some-clause-touched : goal.returns-in-Some-clause-touched
 returns-in-Some-clause-touched c =
     let p = c.args.placer.now in
     let none : has_number (targets_of p.pairs c.args.group) c.args.device ≡ false = sym (rw c.exceptions.ensures.same at c.lead_to.ensures) ∙ c.if-lead_to.false in
-    c.in-Some.ensures p c.args.device c.requires.traced ∙ first_alone (has_number (trace_on p c.args.group) c.args.device) (has_number (targets_of p.pairs c.args.group) c.args.device) none
+    c.in-Some.ensures c.args.device c.requires.traced ∙ first_alone (has_number (trace_on p c.args.group) c.args.device) (has_number (targets_of p.pairs c.args.group) c.args.device) none
 
 pub returns-in-None-clause-touched : goal.returns-in-None-clause-touched
 returns-in-None-clause-touched c =

@@ -8,7 +8,7 @@ abbrev pub invariant-down : goal.invariant-down
 invariant-down l = record {
   in_range : l.bucket < length l.tables.buckets;
   fits : l.scratch ≡ scratch_of l.tables;
-  on : GoesOn l.tables l.x (λ b. l.attempts.start + step l.tables l.attempts.numrep l.attempts.round b) l.wanted l.fn.from l.bucket;
+  on : GoesOn l.tables l.walk.x (λ b. l.attempts.start + step l.tables l.attempts.numrep l.attempts.round b) l.walk.wanted l.walk.from l.bucket;
 }
 
 abbrev pub decreases-down : goal.decreases-down

@@ -14,7 +14,7 @@ same_placer None p q is = cc
 pub is_twice_on_0-requires : goal.is_twice_on_0-requires
 is_twice_on_0-requires g c =
     let p : PoolOnMap = record { map = c.args.map.now; states = c.as_slice-list.result.now; pool = c.deref-2.result.now; pairs = c.exceptions.result.now } in
-    let placer : p ≡ c.in-Some.placer = same_placer _ p c.in-Some.placer (sym c.new.ensures ∙ c.in-Some.is) in
+    let placer : p ≡ c.in-Some.placer = same_placer _ p c.in-Some.placer (sym c.new.ensures.value ∙ c.in-Some.is) in
     let states = sym c.as_slice-list.ensures in
     let pool = sym c.deref-2.ensures in
     let pairs = sym c.exceptions.ensures in

@@ -17,8 +17,8 @@ pub returns-in_ok-add_targets-clause-each : goal.returns-in_ok-add_targets-claus
 returns-in_ok-add_targets-clause-each c =
     let p = c.args.placer.now in
     let group = c.args.group in
-    let traced : c.run.new.out.trace ≡ trace_on p group =
-    (c.traces_ascend.ensures (tables_of p.map) (weights_of (reweights p.states)) (steps_of p) (seed_of p.pool group) p.pool.size c.run.new.out.trace).0 c.run.ensures.trace in
+    let traced : c.run_next.new.out.trace ≡ trace_on p group =
+    (c.traces_ascend.ensures (tables_of p.map) (weights_of (reweights p.states)) (steps_of p) (seed_of p.pool group) p.pool.size c.run_next.new.out.trace).0 c.run_next.ensures.trace in
     let items : c.extend_from_slice.new.self.items ≡ trace_on p group =
     c.in_ok-extend_from_slice.ensures.items ∙ (ap (λ xs. xs ++ c.trace.result.now) c.clear.ensures.items ∙ (c.trace.ensures ∙ traced)) in
     let pairs = c.pairs.ensures.same ∙ c.exceptions-exceptions.ensures.same in
@@ -27,16 +27,16 @@ returns-in_ok-add_targets-clause-each c =
 
 pub returns-in_ok-add_targets-clause-once : goal.returns-in_ok-add_targets-clause-once
 returns-in_ok-add_targets-clause-once c =
-    let items : c.extend_from_slice.new.self.items ≡ c.run.new.out.trace =
+    let items : c.extend_from_slice.new.self.items ≡ c.run_next.new.out.trace =
     c.in_ok-extend_from_slice.ensures.items ∙ (ap (λ xs. xs ++ c.trace.result.now) c.clear.ensures.items ∙ c.trace.ensures) in
-    c.in_ok-add_targets.ensures.once (subst AreOnce (sym items) (once_rising c.run.new.out.trace c.run.ensures.trace.rising))
+    c.in_ok-add_targets.ensures.once (subst AreOnce (sym items) (once_rising c.run_next.new.out.trace c.run_next.ensures.trace.rising))
 
 pub returns-else-concern-clause-each : goal.returns-else-concern-clause-each
 returns-else-concern-clause-each c =
     let p = c.args.placer.now in
     let group = c.args.group in
-    let traced : c.run.new.out.trace ≡ trace_on p group =
-    (c.traces_ascend.ensures (tables_of p.map) (weights_of (reweights p.states)) (steps_of p) (seed_of p.pool group) p.pool.size c.run.new.out.trace).0 c.run.ensures.trace in
+    let traced : c.run_next.new.out.trace ≡ trace_on p group =
+    (c.traces_ascend.ensures (tables_of p.map) (weights_of (reweights p.states)) (steps_of p) (seed_of p.pool group) p.pool.size c.run_next.new.out.trace).0 c.run_next.ensures.trace in
     let items : c.extend_from_slice.new.self.items ≡ trace_on p group =
     c.in_ok-extend_from_slice.ensures.items ∙ (ap (λ xs. xs ++ c.trace.result.now) c.clear.ensures.items ∙ (c.trace.ensures ∙ traced)) in
     let none : list_any (is_of_group group) p.pairs ≡ false =
@@ -45,6 +45,6 @@ returns-else-concern-clause-each c =
 
 pub returns-else-concern-clause-once : goal.returns-else-concern-clause-once
 returns-else-concern-clause-once c =
-    let items : c.extend_from_slice.new.self.items ≡ c.run.new.out.trace =
+    let items : c.extend_from_slice.new.self.items ≡ c.run_next.new.out.trace =
     c.in_ok-extend_from_slice.ensures.items ∙ (ap (λ xs. xs ++ c.trace.result.now) c.clear.ensures.items ∙ c.trace.ensures) in
-    subst AreOnce (sym items) (once_rising c.run.new.out.trace c.run.ensures.trace.rising)
+    subst AreOnce (sym items) (once_rising c.run_next.new.out.trace c.run_next.ensures.trace.rising)

@@ -1,6 +1,7 @@
-use Rattle.std.proofs.Common.{◌≡◌, ◌≤◌, ◌++◌, ◌∙◌, ap, arith, subst}
+use Rattle.std.proofs.Common.{◌≡◌, ◌≤◌, ◌++◌, ◌∙◌, Some, ap, arith, subst}
 use Rattle.std.specs.List.{range_with_len}
 use Rattle.crush_report.specs.OnMaps.{touched_on}
+use Rattle.crush_report.proofs.OnMaps.{impact_on}
 use Rattle.report_cache.specs.Private.Touching.{touches_of}
 use Rattle.report_cache.specs.Touches.{groups_in}
 use Rattle.report_cache.proofs.Touching.{pairs_more}
@@ -21,7 +22,7 @@ pub returns : goal.returns
 returns c =
     let p = c.args.placer.now in
     let n = c.loop-group.group in
-    let end : n ≤ p.pool.pg_num = rw (c.parts.ensures.same ∙ c.pool-2.ensures) at c.loop-group.auto.group-end in
-    let above : p.pool.pg_num ≤ n = rw (c.parts.ensures.same ∙ c.pool-2.ensures) at c.loop-group-test.false in
+    let end : n ≤ p.pool.pg_num = rw c.pool_parts-parts.ensures.same at c.loop-group.auto.group-end in
+    let above : p.pool.pg_num ≤ n = rw c.pool_parts-parts.ensures.same at c.loop-group-test.false in
     let all : n ≡ p.pool.pg_num = omega (arith, end, above) in
-    λ d. subst (λ m. groups_in c.loop-group.pairs.items d ≡ touched_on p d (range_with_len 0 m)) all (c.loop-group.invariant.found d)
+    λ d. ap Some (subst (λ m. groups_in c.loop-group.pairs.items d ≡ touched_on p d (range_with_len 0 m)) all (c.loop-group.invariant.found d)) ∙ impact_on p d c.tables.ensures.rule

@@ -1,5 +1,4 @@
 use Rattle.std.proofs.Common.{◌≡◌, Some, inl, inr, subst, sym, ◌∙◌}
-use Rattle.crush_pool.specs.declared.pool.PoolParts.{PoolParts}
 use Rattle.tenant_cache.specs.Kept.{Ready}
 use Rattle.tenant_cache.specs.Ready.{IsWithNumber}
 use Rattle.tenant_cache.proofs.placing.keep_number.Goals as goal
@@ -14,7 +13,7 @@ returns g c u r at = elim (c.put.ensures.only u r at) [
       let same : c.in-Ok.next ≡ r = sym c.in-Ok-new.ensures.ok ∙ some_is c.in-Ok-new.next.value r mine.1 in
       inr (
         mine.0 ∙ c.in-Ok-from_str.ensures.ok,
-        subst (IsWithNumber c.args.ready.now c.args.pool.now.parts.id c.args.number) same (subst (λ (p : PoolParts). IsWithNumber c.args.ready.now p.id c.args.number c.in-Ok.next) c.parts.ensures c.in-Ok.ensures),
+        subst (IsWithNumber c.args.ready.now c.args.pool.now.parts.id c.args.number) same (subst (λ id. IsWithNumber c.args.ready.now id c.args.number c.in-Ok.next) c.id.ensures c.in-Ok.ensures),
       )
   | inr others ↦ inl others.1
 ]

@@ -6,7 +6,6 @@ use Rattle.tenant_files.proofs.closing.give_back.Goals as goal
 
 pub returns : goal.returns
 returns g c image opening =
-    let conn = c.close.result in
     let closed = c.give_up-closed in
-    inr (given_back g.met.D.Disk.seen_may_stay image c.args.store conn closed.result.files c.requires.works c.close.ensures.same c.close.ensures.honest
-    (subst (λ (r : Result (Unit {0}) FileFault). GivesBack conn r closed.result.files) closed.ensures.failed closed.ensures.given) opening)
+    inr (given_back g.met.D.Disk.seen_may_stay image c.args.store closed.result.files c.requires.works closed.ensures.honest
+    (subst (λ (r : Result (Unit {0}) FileFault). GivesBack c.args.store.0 r closed.result.files) closed.ensures.failed closed.ensures.given) opening)

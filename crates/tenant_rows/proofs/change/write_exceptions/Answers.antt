@@ -1,4 +1,6 @@
-use Rattle.std.proofs.Common.{◌≡◌, ◌∷◌, ◌++◌, [], pos, length, map, take, refl, arith, sym, ap, subst, ◌∙◌}
+use Rattle.std.proofs.Common.{◌≡◌, ◌∷◌, ◌++◌, [], pos, length, map, take, refl, arith, rules, sym, ap, subst, ◌∙◌}
+use mir.Val.{SFits}
+use mir.Syntax.{w64}
 use Rattle.std.proofs.lemmas.Result.{err_from_is_err_and, on_ok_weaker}
 use Rattle.sqlite.proofs.StateLemmas.{survives_then, survives_weaker}
 use Rattle.sqlite.specs.Effect.{Database}
@@ -12,8 +14,8 @@ use Rattle.table_schema.specs.Holds.{of_tenant}
 use Rattle.table_schema.specs.Layout.{pools_table}
 use Rattle.table_schema.specs.Values.{exception_row, pool_row}
 use Rattle.tenant_tables.specs.Change.{Accepts, IsNumber, with_exceptions}
-use Rattle.tenant_rows.proofs.Accepted.{accepted, pools_of, word, word_is}
-use Rattle.tenant_rows.proofs.Listed.{is_live, moved, same_fault}
+use Rattle.tenant_rows.proofs.Accepted.{pools_of, word, word_is}
+use Rattle.tenant_rows.proofs.Listed.{is_live, same_fault}
 use Rattle.tenant_rows.proofs.PairCommits.{count_word, few_pairs, is_read, not_refused, number_is, paired}
 use Rattle.tenant_rows.specs.Commits.{with_new_pairs}
 use Rattle.tenant_rows.specs.Rows.{rows_of_pairs}
@@ -25,16 +27,18 @@ pub returns-in_err-rows-clause-rows : goal.returns-in_err-rows-clause-rows
 returns-in_err-rows-clause-rows g c = λ clean damaged.
     let first : HasCleanDisk (state g.S.Store c.args.tables.now.0) = omega (arith, clean, c.in_err-rows.ensures.crash.clean) in
     let p = err_from_is_err_and c.from_residual.result c.from_residual.ensures.1 in
-    let made = pools_of (state g.S.Store c.args.tables.now.0).now.trees c.args.id (NewExceptions c.args.pool c.args.exceptions.now) c.ranges.id (c.requires.suits first) in
-    not_refused (state g.S.Store c.args.tables.now.0).now.trees (word c.args.id) (NewExceptions c.args.pool c.args.exceptions.now) made
+    let fits : SFits w64 c.args.accepted.id = search rules in
+    let made = pools_of (state g.S.Store c.args.tables.now.0).now.trees c.args.accepted.id (NewExceptions c.args.pool c.args.exceptions.now) fits (c.requires.suits first) in
+    not_refused (state g.S.Store c.args.tables.now.0).now.trees (word c.args.accepted.id) (NewExceptions c.args.pool c.args.exceptions.now) made
     (c.in_err-rows.ensures.damaged clean (same_fault c.from_residual.result _ _ _ p.1 p.2 damaged))
 
 -- the pool is there
 pub returns-in_default-clause-rows : goal.returns-in_default-clause-rows
 returns-in_default-clause-rows g c = λ clean _.
     let first : HasCleanDisk (state g.S.Store c.args.tables.now.0) = omega (arith, clean, c.in_ok-rows.ensures.crash.clean) in
-    let made = pools_of (state g.S.Store c.args.tables.now.0).now.trees c.args.id (NewExceptions c.args.pool c.args.exceptions.now) c.ranges.id (c.requires.suits first) in
-    is_read (state g.S.Store c.args.tables.now.0).now.trees (word c.args.id) c.args.pool c.args.exceptions.now made (map pool_values c.in_ok-rows.rows.items) (c.in_ok-rows.ensures.found clean)
+    let fits : SFits w64 c.args.accepted.id = search rules in
+    let made = pools_of (state g.S.Store c.args.tables.now.0).now.trees c.args.accepted.id (NewExceptions c.args.pool c.args.exceptions.now) fits (c.requires.suits first) in
+    is_read (state g.S.Store c.args.tables.now.0).now.trees (word c.args.accepted.id) c.args.pool c.args.exceptions.now made (map pool_values c.in_ok-rows.rows.items) (c.in_ok-rows.ensures.found clean)
     (c.row_with.ensures.none c.in_default.is)
 
 pub all_pair_values-requires : goal.all_pair_values-requires
@@ -44,7 +48,7 @@ pub commit_exceptions-requires-clause-there : goal.commit_exceptions-requires-cl
 commit_exceptions-requires-clause-there g c clean =
     let first : HasCleanDisk (state g.S.Store c.args.tables.now.0) = omega (arith, clean, c.in_ok-rows.ensures.crash.clean) in
     let kept = c.in_ok-rows.ensures.kept clean (is_live c.pools_of.new.self.1 c.in_ok-rows.rows c.in_ok-rows.ensures.latches.0) in
-    moved IsNumber (state g.S.Store c.args.tables.now.0).now (state g.S.Store c.pools_of.new.self.0).now c.args.id (word c.args.id) (sym kept) (sym (word_is c.args.id c.ranges.id)) (c.requires.there first)
+    subst (λ (d : Database). IsNumber d.trees c.args.accepted.id) (sym kept) (c.requires.there first)
 
 -- how many there are
 count_is : (g : given.Over) (c : goal.After-drop-row-2 g) → pool_row c.values_with-pool.result ≡ take 8 (pool_values c.in-Some.row) ++ Int (pos (length c.args.exceptions.now)) ∷ []
@@ -55,21 +59,22 @@ count_is g c =
 
 -- what is written is what is made
 turn : (g : given.Over) (c : goal.After-drop-row-2 g) (db : Trees) → HasCleanDisk (state g.S.Store c.pools_of.new.self.0)
-    → Accepts (word c.args.id) (word c.args.epoch) c.args.receipt (with_exceptions c.values_with-pool.result c.deref.result.now) (state g.S.Store c.pools_of.new.self.0).now.trees db
-    → Accepts c.args.id c.args.epoch c.args.receipt (with_new_pairs c.args.pool c.args.exceptions.now) (state g.S.Store c.args.tables.now.0).now.trees db
+    → Accepts c.args.accepted (with_exceptions c.values_with-pool.result c.deref.result.now) (state g.S.Store c.pools_of.new.self.0).now.trees db
+    → Accepts c.args.accepted (with_new_pairs c.args.pool c.args.exceptions.now) (state g.S.Store c.args.tables.now.0).now.trees db
 turn g c db clean written =
     let old = (state g.S.Store c.args.tables.now.0).now in
     let first : HasCleanDisk (state g.S.Store c.args.tables.now.0) = omega (arith, clean, c.in_ok-rows.ensures.crash.clean) in
     let kept = c.in_ok-rows.ensures.kept clean (is_live c.pools_of.new.self.1 c.in_ok-rows.rows c.in_ok-rows.ensures.latches.0) in
-    let listed = subst (λ n. Lists (of_tenant pools_table n old.trees) (map pool_values c.in_ok-rows.rows.items)) (word_is c.args.id c.ranges.id) (c.in_ok-rows.ensures.found clean) in
+    let fits : SFits w64 c.args.accepted.id = search rules in
+    let listed = subst (λ n. Lists (of_tenant pools_table n old.trees) (map pool_values c.in_ok-rows.rows.items)) (word_is c.args.accepted.id fits) (c.in_ok-rows.ensures.found clean) in
     let values = c.values_with-pool.result in
     let it = c.in-Some.ensures.some in
     let are : map exception_row c.deref.result.now ≡ rows_of_pairs c.args.pool 0 c.args.exceptions.now =
     ap (map exception_row) c.deref.ensures.value ∙ (c.in_ok-values.ensures ∙ ap (rows_of_pairs c.args.pool 0) c.pairs-pairs.ensures.same) in
-    let still = subst (λ (d : Database). Accepts (word c.args.id) (word c.args.epoch) c.args.receipt (with_exceptions values c.deref.result.now) d.trees db) kept written in
-    paired old.trees c.args.id c.args.pool c.args.exceptions.now (c.requires.suits first) (map pool_values c.in_ok-rows.rows.items) listed c.args.epoch c.args.receipt db (pool_values c.in-Some.row) values c.deref.result.now
+    let still = subst (λ (d : Database). Accepts c.args.accepted (with_exceptions values c.deref.result.now) d.trees db) kept written in
+    paired old.trees c.args.accepted.id c.args.pool c.args.exceptions.now (c.requires.suits first) (map pool_values c.in_ok-rows.rows.items) listed c.args.accepted refl db (pool_values c.in-Some.row) values c.deref.result.now
     it.0 (ap Int it.1) (number_is c.in-Some.row values (pos (length c.args.exceptions.now)) (count_is g c) ∙ it.1) (count_is g c) are
-    (accepted (λ (A : Trees → Type 0). A db) c.args.id c.args.epoch c.args.receipt old.trees (with_exceptions values c.deref.result.now) (with_exceptions values c.deref.result.now) c.ranges.id c.ranges.epoch refl still)
+    still
 
 pub returns-clause-done : goal.returns-clause-done
 returns-clause-done g c clean =

@@ -12,10 +12,10 @@ abbrev pub invariant-loop-rest : goal.invariant-loop-rest
 invariant-loop-rest g l =
     let old = state g.S.Store l.fn.tables.0 in
     let now = state g.S.Store l.tables.0 in
-    let all = of_tenant receipts_table l.id old.now.trees in
+    let all = of_tenant receipts_table l.tenant.id old.now.trees in
     record {
       live : l.tables.1 ≡ false;
-      number : l.epoch ≡ pos l.number;
+      number : l.tenant.epoch ≡ pos l.number;
       same : HasCleanDisk now → now.now ≡ old.now;
       crash : Survives old now (λ _. ⊥);
       leaves : HasCleanDisk now → Leaves all all l.number l.rest;

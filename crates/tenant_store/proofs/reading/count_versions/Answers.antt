@@ -1,14 +1,10 @@
-use Rattle.std.proofs.Common.{length, arith, rules, sym, ap, ◌∙◌}
+use Rattle.std.proofs.Common.{length, arith, sym, ap, ◌∙◌}
 use Rattle.std.specs.BTreeMap.{get_by_text}
 use Rattle.std.proofs.lemmas.Result.{err_from_is_err_and}
-use mir.Syntax.{w64}
-use mir.Val.{SFits}
 use Rattle.sqlite.specs.Held.{state}
 use Rattle.sqlite.specs.State.{HasCleanDisk}
-use Rattle.tenant_rows.specs.Changes.{HasRows}
-use Rattle.tenant_rows.specs.Lists.{IsOfState}
 use Rattle.tenant_state.specs.State.{Inventory}
-use Rattle.tenant_store.proofs.Refusing.{at_words, same_fault}
+use Rattle.tenant_store.proofs.Refusing.{same_fault}
 use Rattle.tenant_store.proofs.Judging.{no_rows, as_remembered, as_read}
 use Rattle.tenant_store.proofs.reading.count_versions.Goals as goal
 
@@ -20,9 +16,7 @@ pub returns-clause-found : goal.returns-clause-found
 returns-clause-found g c clean s has =
     let db = (state g.S.Store c.args.tables.now.0).now.trees in
     let early : HasCleanDisk (state g.S.Store c.args.tables.now.0) = omega (arith, clean, c.read_inventory.ensures.crash.clean) in
-    let fits : SFits w64 c.args.tenant.now.id = search rules in
-    let also : SFits w64 c.args.tenant.now.epoch = search rules in
-    let rows = at_words (λ n e. HasRows db n e c.in_ok-inventory.inventory.value) c.args.tenant.now.id c.args.tenant.now.epoch fits also (c.in_ok-inventory.ensures.found clean).1 in
+    let rows = (c.in_ok-inventory.ensures.found clean).1 in
     c.newest.ensures ∙ (ap (λ (i : Inventory). length i.versions) c.deref.ensures ∙ as_read db c.args.name.now c.args.tenant.now (c.requires.there early).2 c.in_ok-inventory.inventory.value s rows has)
 
 pub returns-in_err-inventory-clause-damaged : goal.returns-in_err-inventory-clause-damaged
@@ -31,8 +25,4 @@ returns-in_err-inventory-clause-damaged g c clean same =
     let db = (state g.S.Store c.args.tables.now.0).now.trees in
     let early : HasCleanDisk (state g.S.Store c.args.tables.now.0) = omega (arith, clean, c.read_inventory.ensures.crash.clean) in
     let it = c.requires.there early in
-    let fits : SFits w64 c.args.tenant.now.id = search rules in
-    let also : SFits w64 c.args.tenant.now.epoch = search rules in
-    no_rows db c.args.name.now c.args.tenant.now it.2
-    (at_words (λ n e. (i : Inventory) → IsOfState i → ¬ HasRows db n e i) c.args.tenant.now.id c.args.tenant.now.epoch fits also
-    (c.in_err-inventory.ensures.damaged clean (same_fault c.from_residual.result _ _ _ p.1 p.2 same))) it.0 it.1
+    no_rows db c.args.name.now c.args.tenant.now it.2 (c.in_err-inventory.ensures.damaged clean (same_fault c.from_residual.result _ _ _ p.1 p.2 same)) it.0 it.1

@@ -57,7 +57,7 @@ returns-clause-judged g c clean live =
     let early : HasCleanDisk (state g.S.Store c.args.tables.now.0) = omega (arith, mid, c.tenant_of.ensures.crash.clean) in
     let found = c.in_ok-tenant.ensures.kept mid c.in_ok-tenant.ensures.latches in
     let same = c.in_ok-versions.ensures.kept late c.in_ok-versions.ensures.latches ∙ found in
-    let there = c.requires.there early in
+    let there = c.requires.there early (c.tenant_of.ensures.ready early) in
     let count = c.in_ok-versions.ensures.found late there.0 (subst (λ (d : Database). StandsFor d.trees name (Some there.0)) (sym found) there.1) in
     let it = is_changeable old (state g.S.Store c.count_versions.new.tables.0).now name there.0 c.in_ok-tenant.tenant c.in_ok-versions.versions c.args.change.now same (c.in_ok-tenant.ensures.names mid) there.1 count there.2 in
     still_judged name (after c.args.change.now there.0) c.versions_after.result old.trees new.trees (get_by_text c.args.judged.now) (get_by_text c.update.new.judged) (c.requires.judged early)

@@ -16,7 +16,7 @@ remove-requires-clause-there g c mid =
     let tenant = c.in_ok-tenant.tenant in
     let old = (state g.S.Store c.args.tables.now.0).now in
     let early : HasCleanDisk (state g.S.Store c.args.tables.now.0) = omega (arith, mid, c.tenant_of.ensures.crash.clean) in
-    let it = c.requires.there early in
+    let it = c.requires.there early (c.tenant_of.ensures.ready early) in
     let fits : SFits w64 c.in_ok-tenant.tenant.id = search rules in
     let number = is_number old.trees c.args.name.now it.0 tenant (c.in_ok-tenant.ensures.names mid) it.1 in
     let same = c.in_ok-tenant.ensures.kept mid c.in_ok-tenant.ensures.latches in
@@ -30,7 +30,7 @@ returns-clause-made g c clean =
     let new = (state g.S.Store c.remove.new.self.0).now.trees in
     let mid : HasCleanDisk (state g.S.Store c.tenant_of.new.tables.0) = omega (arith, clean, c.remove.ensures.crash.clean) in
     let early : HasCleanDisk (state g.S.Store c.args.tables.now.0) = omega (arith, mid, c.tenant_of.ensures.crash.clean) in
-    let it = c.requires.there early in
+    let it = c.requires.there early (c.tenant_of.ensures.ready early) in
     let fits : SFits w64 c.in_ok-tenant.tenant.id = search rules in
     let same = c.in_ok-tenant.ensures.kept mid c.in_ok-tenant.ensures.latches in
     on_ok_weaker c.remove.result (λ done. is_dropped old.trees new c.args.name.now it.0 tenant (c.in_ok-tenant.ensures.names mid) it.1
@@ -44,4 +44,4 @@ returns-clause-crash g c =
     let fits : SFits w64 c.in_ok-tenant.tenant.id = search rules in
     remove_survives (state g.S.Store c.args.tables.now.0) first new c.args.name.now tenant c.tenant_of.ensures.crash
     (at_word (λ n. Survives first new (Drops n first.now.trees)) tenant.id fits c.remove.ensures.crash)
-    (λ mid. c.in_ok-tenant.ensures.kept mid c.in_ok-tenant.ensures.latches) c.in_ok-tenant.ensures.names c.requires.there
+    (λ mid. c.in_ok-tenant.ensures.kept mid c.in_ok-tenant.ensures.latches) c.in_ok-tenant.ensures.names (λ early. c.requires.there early (c.tenant_of.ensures.ready early))

@@ -5,5 +5,5 @@ use Rattle.tenant_tables.proofs.commit.exception_writes_for.Given as goal
 
 abbrev pub invariant-loop-exception : goal.invariant-loop-exception
 invariant-loop-exception l = record {
-  written : l.writes.items ≡ (Raise l.fn.id l.fn.epoch ∷ pool_writes l.fn.id l.pool) ++ exception_writes l.fn.id (take l.exception-index l.exceptions);
+  written : l.writes.items ≡ (Raise l.accepted.id l.accepted.epoch ∷ pool_writes l.accepted.id l.pool) ++ exception_writes l.accepted.id (take l.exception-index l.exceptions);
 }

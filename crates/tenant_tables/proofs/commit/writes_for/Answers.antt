@@ -1,30 +1,35 @@
-use Rattle.std.proofs.Common.{rules, ◌≡◌, ◌++◌, [], ◌∷◌, ap, ◌∙◌, arith, take_all, to_z, of_z, pos, get_or}
+use Rattle.std.proofs.Common.{rules, ◌++◌, [], ◌∷◌, ap, ◌∙◌, arith, take_all, pos, get_or}
 use Rattle.std.proofs.lemmas.Int.{to_z-of_z}
 use mir.Val.{SFits}
 use mir.Syntax.{w64}
-use Rattle.tenant_tables.specs.declared.write.Write.TheVariants.{Raise, ClearState, AddReceipt}
+use Rattle.tenant_tables.specs.declared.write.Write.TheVariants.{Raise, AddReceipt}
 use Rattle.table_schema.specs.declared.values.State.{State}
 use Rattle.tenant_tables.specs.Run.{state_writes}
 use Rattle.tenant_tables.proofs.RunFacts.{written_more}
 use Rattle.tenant_tables.proofs.commit.writes_for.Goals as goal
 
 pub loop-state-init : goal.loop-state-init
-loop-state-init c = record { written = c.in_ok-push.ensures.items ∙ ap (λ l. l ++ Raise (to_z w64 (of_z w64 c.args.id)) (to_z w64 (of_z w64 c.args.epoch)) ∷ []) c.new-writes.ensures.items }
+loop-state-init c =
+    let a = c.args.accepted.now in
+    let fits-id : SFits w64 c.args.accepted.now.id = search rules in
+    let fits-epoch : SFits w64 c.args.accepted.now.epoch = search rules in
+    record { written = (simp to_z-of_z at c.in_ok-push.ensures.items) ∙ ap (λ l. l ++ Raise a.id a.epoch ∷ []) c.new-writes.ensures.items }
 
 pub loop-state-preserved : goal.loop-state-preserved
 loop-state-preserved c =
     let none : State = record { device = pos 0; reweight = pos 0; up = pos 0 } in
     let state : State = get_or c.args.states.now c.loop-state.state-index none in
     let fits : SFits w64 state.device = search rules in
+    let fits-id : SFits w64 c.args.accepted.now.id = search rules in
     record {
       written = written_more _ _ c.args.states.now c.loop-state.state-index none c.loop-state.writes.items c.push-in-loop-state.new.self.items c.push-in-loop-state-2.new.self.items (omega arith) c.loop-state.invariant.written
-          (c.in_ok-push-2.ensures.items ∙ ap (λ n. c.loop-state.writes.items ++ ClearState (to_z w64 (of_z w64 c.args.id)) n ∷ []) (to_z-of_z w64 state.device fits)) c.in_ok-push-3.ensures.items;
+          (simp to_z-of_z at c.in_ok-push-2.ensures.items) (simp to_z-of_z at c.in_ok-push-3.ensures.items);
     }
 
 pub returns : goal.returns
 returns c =
-    let fits-id : SFits w64 c.args.id = search rules in
-    let fits-epoch : SFits w64 c.args.epoch = search rules in
+    let a = c.args.accepted.now in
+    let fits-id : SFits w64 c.args.accepted.now.id = search rules in
     let all = take_all c.loop-state.state-index c.args.states.now (omega arith) in
-    let items : c.loop-state.writes.items ≡ Raise c.args.id c.args.epoch ∷ state_writes c.args.id c.args.states.now = (simp to_z-of_z at c.loop-state.invariant.written) ∙ ap (λ l. Raise c.args.id c.args.epoch ∷ state_writes c.args.id l) all in
-    (simp to_z-of_z at c.in_ok-push-4.ensures.items) ∙ ap (λ l. l ++ AddReceipt c.args.id c.args.receipt.now ∷ []) items
+    (simp to_z-of_z at c.in_ok-push-4.ensures.items) ∙ ap (λ l. l ++ AddReceipt a.id a.receipt ∷ [])
+    (c.loop-state.invariant.written ∙ ap (λ l. Raise a.id a.epoch ∷ state_writes a.id l) all)

@@ -5,5 +5,5 @@ use Rattle.tenant_tables.proofs.commit.writes_for.Given as goal
 
 abbrev pub invariant-loop-state : goal.invariant-loop-state
 invariant-loop-state l = record {
-  written : l.writes.items ≡ Raise l.fn.id l.fn.epoch ∷ state_writes l.fn.id (take l.state-index l.states);
+  written : l.writes.items ≡ Raise l.accepted.id l.accepted.epoch ∷ state_writes l.accepted.id (take l.state-index l.states);
 }

@@ -1,14 +1,9 @@
-use Rattle.std.proofs.Common.{◌≡◌, ◌+◌, ◌++◌, ◌∷◌, ◌∙◌, [], true, length, refl, ap, arith, length-append}
-use Rattle.crush_pool.specs.Pools.{is_pool}
+use Rattle.std.proofs.Common.{◌≡◌, ◌+◌, ◌++◌, ◌∷◌, ◌∙◌, [], length, ap, arith, length-append}
 use Rattle.crush_report.proofs.Kept.{last_start, none_kept, one_more}
 use Rattle.crush_report.proofs.answers.Answers.build.Goals as goal
 
 pub returns-then-not-are_few-clause-answers : goal.returns-then-not-are_few-clause-answers
-returns-then-not-are_few-clause-answers c =
-    let p = c.args.placer.now in
-    let valid : is_pool p.pool ≡ true = rw c.pool-pool.ensures at c.parts.ensures.valid in
-    let count : c.none.result.places.count ≡ p.pool.pgp_num = rw (c.none.ensures.places, c.of-places.ensures, c.pool-pool.ensures) refl in
-    none_kept p c.none.result valid count c.none.ensures.starts
+returns-then-not-are_few-clause-answers c = none_kept c.args.placer.now _ c.pool_parts-parts.ensures.valid c.new-then-not-are_few.ensures.items
 
 pub loop-place-preserved : goal.loop-place-preserved
 loop-place-preserved c =

@@ -1,11 +1,8 @@
-use Rattle.std.proofs.Common.{rules, ◌≡◌, ◌∙◌, ℕ, Some, ap, subst, sym}
+use Rattle.std.proofs.Common.{rules, ◌∙◌, Some, ap, subst, sym}
 use Rattle.std.specs.List.Sorted.{IsNonDecreasingBy}
 use Rattle.std.proofs.lemmas.Fn.{always_returns_same}
 use Rattle.std.proofs.lemmas.List.Sorted.{IsNonDecreasingBy-from_sort_by_key}
-use Rattle.crush_report.specs.OnMaps.{touched_on}
-use Rattle.crush_report.specs.Reports.{groups}
-use Rattle.report_cache.specs.Touches.{groups_in}
-use Rattle.crush_report.proofs.OnMaps.{impact_on}
+use Rattle.report_cache.specs.Touches.{AreTouchesOn, groups_in}
 use Rattle.report_cache.proofs.Touching.{groups_sorted}
 use Rattle.report_cache.proofs.touches.Touches.build.Goals as goal
 
@@ -17,6 +14,6 @@ invariant_of-result c =
 pub returns : goal.returns
 returns c =
     let p = c.args.placer.now in
-    let found : (d : ℕ) → groups_in c.in-Some.pairs.items d ≡ touched_on p d (groups p.pool) = rw c.in-Some.is at c.in_ok-pairs.ensures in
+    let found : AreTouchesOn p c.in-Some.pairs.items = rw c.in-Some.is at c.in_ok-pairs.ensures in
     let stable = c.in_ok-sort_by_key.ensures.stable (λ t. t.device) (always_returns_same _ _ _ (λ a r q k. search rules)) in
-    λ device. ap Some (ap (λ ts. groups_in ts device) c.shrink_to_fit.ensures.items ∙ groups_sorted c.in-Some.pairs.items c.sort_by_key.new.self.items device stable ∙ found device) ∙ impact_on p device c.map-map.ensures.rule
+    λ device. ap Some (ap (λ ts. groups_in ts device) c.shrink_to_fit.ensures.items ∙ groups_sorted c.in-Some.pairs.items c.sort_by_key.new.self.items device stable) ∙ found device

@@ -6,5 +6,5 @@ use Rattle.report_cache.proofs.up_lists.UpLists.build.Goals as goal
 pub returns-then-fits : goal.returns-then-fits
 returns-then-fits c =
     let p = c.args.placer.now in
-    let lists = rw (c.in_ok-run.ensures, c.parts.ensures.same ∙ c.pool-pool.ensures) at (c.in_ok-fits.ensures.lists c.if-fits.true) in
-    subst (AreUpListsOn p) (sym lists) (lists_on p c.map-map.ensures.rule)
+    let lists = rw (c.in_ok-run.ensures.same, c.pool_parts-parts.ensures.same) at (c.in_ok-fits.ensures.lists c.if-fits.true) in
+    subst (AreUpListsOn p) (sym lists) (lists_on p c.build.ensures.rule)

@@ -1,8 +1,8 @@
-use Rattle.std.proofs.Common.{rules, ◌≡◌, ◌∙◌, ◌==◌, Some, ap}
+use Rattle.std.proofs.Common.{rules, ◌≡◌, ◌==◌, Some}
 use Rattle.std.specs.Prelude.{find}
 use Rattle.crush_pool.specs.Pools.{group_of}
-use Rattle.crush_pool.specs.declared.pool.PoolParts.{PoolParts}
 use Rattle.tenant_core.proofs.Answering.{device_is_asked, group_is_asked, object_is_asked, versions_are_asked}
+use Rattle.tenant_resources.proofs.GroupAnswers.{group_of-hash}
 use Rattle.tenant_core.proofs.queries.Query.asked_in.Goals as goal
 
 pub returns-then-group-from : goal.returns-then-group-from
@@ -13,10 +13,9 @@ returns-then-group-from c =
 pub returns-in_ok-pool-in-Object : goal.returns-in_ok-pool-in-Object
 returns-in_ok-pool-in-Object c =
     let found : Some c.in_ok-pool-in-Object.pool.now ≡ find (λ p. p.parts.id == c.in-Object.id) c.pools-in-Object.result.now = search rules in
-    let own : c.group_of-group.result ≡ group_of c.in_ok-pool-in-Object.pool.now.parts c.in-Object.name =
-    c.group_of-group.ensures.value
-    ∙ (ap (λ (p : PoolParts). group_of p c.as_bytes.result.now) c.pool.ensures ∙ ap (group_of c.in_ok-pool-in-Object.pool.now.parts) (c.as_bytes.ensures.value ∙ c.as_str.ensures.same)) in
-    object_is_asked c.args.self.now c.in-Object.id c.args.inventory.now c.pools-in-Object.result.now c.in_ok-pool-in-Object.pool.now c.in-Object.name c.group_of-group.result c.in-Object.is c.pools-in-Object.ensures found own
+    let own : c.group_of_hash-group.result ≡ group_of c.in_ok-pool-in-Object.pool.now.parts c.in-Object.name =
+    group_of-hash c.pool.result.now c.in_ok-pool-in-Object.pool.now.parts c.in-Object.name c.hash.result c.group_of_hash-group.result c.group_of_hash-group.ensures.value c.pool.ensures c.hash.ensures in
+    object_is_asked c.args.self.now c.in-Object.id c.args.inventory.now c.pools-in-Object.result.now c.in_ok-pool-in-Object.pool.now c.in-Object.name c.group_of_hash-group.result c.in-Object.is c.pools-in-Object.ensures found own
 
 pub returns-in_ok-pool-in-Impact : goal.returns-in_ok-pool-in-Impact
 returns-in_ok-pool-in-Impact c =

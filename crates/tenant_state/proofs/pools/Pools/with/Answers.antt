@@ -15,6 +15,6 @@ pub returns : goal.returns
 returns c =
     let same = same_shared c.self.inside.pools.items c.in_ok-pools.pools.items c.in_ok-pools.ensures.cases.0 ∙ c.self.view_is in
     let new = c.in_ok-new-2.ensures.ok ∙ (c.in_ok-new.ensures ∙ ap with_none c.in_ok-clone.ensures.cases) in
-    c.in_ok-insert.ensures
+    c.of.ensures ∙ (c.in_ok-insert.ensures
     ∙ (ap (λ (p : TenantPool). with_element id_of p (map (λ p. p.value) c.in_ok-pools.pools.items)) new
-    ∙ ap (with_element id_of (with_none c.args.pool.now.value)) same)
+    ∙ ap (with_element id_of (with_none c.args.pool.now.value)) same))

@@ -28,9 +28,9 @@ returns c =
     elim c.match-place_with.branch [
       | in-Some+in_ok-pool+in_ok-pools-2 w ↦
           let own = w.in_ok-pools-2.ensures.ok ∙ (w.in_ok-pool.ensures ∙ ap (with_own c.args.exceptions.now) (w.deref-in-Some.ensures ∙ ap (λ p. p.value) w.index.ensures)) in
-          ap (λ v. map (λ p. p.value) v.items) w.pools-is
+          c.of.ensures ∙ (ap (λ v. map (λ p. p.value) v.items) w.pools-is
           ∙ (paired (λ p. p.value) c.args.id c.args.exceptions.now w.in_ok-pools-2.field-0 w.index.result.now w.in-Some.place c.in_ok-pools.pools.items (asked ∙ w.in-Some.is) own
-          ∙ ap (with_pairs c.args.id c.args.exceptions.now) same)
+          ∙ ap (with_pairs c.args.id c.args.exceptions.now) same))
       | in_default w ↦
           let gone : None ≡ find (λ p. p.parts.id == c.args.id) c.args.self.now =
           not_found (λ p. p.value) (λ (p : TenantPool). p.parts.id == c.args.id) c.in_ok-pools.pools.items (asked ∙ w.in_default.is)

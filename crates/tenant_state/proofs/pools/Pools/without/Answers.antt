@@ -13,11 +13,11 @@ returns c =
     sym (c.place_with.ensures ∙ (ap (λ l. position (λ p. p.value.parts.id == c.from.result) l) c.deref.ensures.value
     ∙ ap (λ n. position (λ p. p.value.parts.id == n) c.in_ok-pools.pools.items) c.from.ensures)) in
     elim c.match-place_with.branch [
-      | in-Some w ↦ ap (λ v. map (λ p. p.value) v.items) w.pools-is
+      | in-Some w ↦ c.of.ensures ∙ (ap (λ v. map (λ p. p.value) v.items) w.pools-is
           ∙ (ap (map (λ p. p.value)) w.remove-removed.ensures.items
           ∙ (removed (λ p. p.value) (λ (p : TenantPool). p.parts.id) c.args.id w.remove-removed.result w.in-Some.place c.in_ok-pools.pools.items (asked ∙ w.in-Some.is)
-          ∙ ap (without (λ (p : TenantPool). p.parts.id) c.args.id) same))
-      | in_default w ↦ ap (λ v. map (λ p. p.value) v.items) w.pools-is
+          ∙ ap (without (λ (p : TenantPool). p.parts.id) c.args.id) same)))
+      | in_default w ↦ c.of.ensures ∙ (ap (λ v. map (λ p. p.value) v.items) w.pools-is
           ∙ (absent (λ p. p.value) (λ (p : TenantPool). p.parts.id) c.args.id c.in_ok-pools.pools.items (asked ∙ w.in_default.is)
-          ∙ ap (without (λ (p : TenantPool). p.parts.id) c.args.id) same)
+          ∙ ap (without (λ (p : TenantPool). p.parts.id) c.args.id) same))
     ]

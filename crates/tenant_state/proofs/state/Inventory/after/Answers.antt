@@ -1,6 +1,4 @@
-use Rattle.std.proofs.Common.{◌∙◌, ◌∷◌, [], ◌++◌, map, rules, refl, sym, ap, subst}
-use Rattle.std.proofs.lemmas.List.{map-append}
-use Rattle.crush_map.specs.Map.{Map}
+use Rattle.std.proofs.Common.{◌∙◌, rules, refl, sym, ap, subst}
 use Rattle.tenant_state.proofs.Leaving.{parts_stay}
 use Rattle.tenant_state.specs.Made.{made_of}
 use Rattle.tenant_state.specs.State.{Change, Inventory, NewExceptions, NewPool, NewStates, NewVersion, RemovedPool, suits}

@@ -19,7 +19,7 @@ returns-clause-made g c = rw (← c.self.view_is) (λ honest s has.
     let old = (state g.S.Store c.self.inside.tables.0).now.trees in
     let early : HasCleanDisk (state g.S.Store c.self.inside.tables.0) = omega (arith, honest.clean, c.commit.ensures.crash.clean) in
     let works = rw (← c.self.view_is) at c.requires.open in
-    let there = (rw (← c.self.view_is) at c.requires.there) (record { clean = early; ready = λ _. c.is_latched-live.ensures.ready works early; one_state = honest.one_state }) in
+    let there = (rw (← c.self.view_is) at c.requires.there) (record { clean = early; ready = λ _. c.commit.ensures.ready early; one_state = honest.one_state }) in
     let can = can_make honest.one_state old c.args.name.now s there.0 c.args.change.now has there.1 there.2 in
     on_ok_weaker c.commit.result (λ turns. turns.own) (c.commit.ensures.made honest.clean s has can))
 
@@ -28,7 +28,7 @@ returns-clause-crash g c = rw (← c.self.view_is) (λ honest latched s has.
     let old = (state g.S.Store c.self.inside.tables.0).now.trees in
     let early : HasCleanDisk (state g.S.Store c.self.inside.tables.0) = omega (arith, honest.clean, c.commit.ensures.crash.clean) in
     let works = rw (← c.self.view_is) at c.requires.open in
-    let ready = c.is_latched-live.ensures.ready works early in
+    let ready = c.commit.ensures.ready early in
     let there = (rw (← c.self.view_is) at c.requires.there) (record { clean = early; ready = λ _. ready; one_state = honest.one_state }) in
     let can = can_make honest.one_state old c.args.name.now s there.0 c.args.change.now has there.1 there.2 in
     as_it_was_or g.S.Store g.met.S.Store.settled honest.one_state (λ db. (u : TenantState) → StandsFor old c.args.name.now (Some u) → CanMake c.args.change.now u → Turns c.args.name.now (Some (after c.args.change.now u)) old db)

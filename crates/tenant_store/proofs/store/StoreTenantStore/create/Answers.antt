@@ -40,5 +40,5 @@ returns-clause-crash g c = rw (← c.self.view_is) (λ honest latched.
     let old = (state g.S.Store c.self.inside.tables.0).now.trees in
     let early : HasCleanDisk (state g.S.Store c.self.inside.tables.0) = omega (arith, honest.clean, c.create.ensures.crash.clean) in
     let works = rw (← c.self.view_is) at c.requires.open in
-    as_it_was_or g.S.Store g.met.S.Store.settled honest.one_state (Creates c.args.name.now old) c.args.name.now (Some fresh) c.self.inside.tables c.create.new.self (c.is_latched-live.ensures.ready works early) c.create.ensures.crash
+    as_it_was_or g.S.Store g.met.S.Store.settled honest.one_state (Creates c.args.name.now old) c.args.name.now (Some fresh) c.self.inside.tables c.create.new.self (c.create.ensures.ready early) c.create.ensures.crash
     (λ db made. created c.args.name.now old db made) honest.clean)

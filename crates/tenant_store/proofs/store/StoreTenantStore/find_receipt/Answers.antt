@@ -17,4 +17,4 @@ pub returns-clause-crash : goal.returns-clause-crash
 returns-clause-crash g c = rw (← c.self.view_is) (λ honest latched.
     let early : HasCleanDisk (state g.S.Store c.self.inside.tables.0) = omega (arith, honest.clean, c.find_receipt.ensures.crash.clean) in
     let works = rw (← c.self.view_is) at c.requires.open in
-    as_it_was g.S.Store g.met.S.Store.settled c.self.inside.tables c.find_receipt.new.tables (c.is_latched-live.ensures.ready works early) c.find_receipt.ensures.crash honest.clean)
+    as_it_was g.S.Store g.met.S.Store.settled c.self.inside.tables c.find_receipt.new.tables (c.find_receipt.ensures.ready early) c.find_receipt.ensures.crash honest.clean)

@@ -19,5 +19,5 @@ returns-clause-crash g c = rw (← c.self.view_is) (λ honest latched.
     let old = (state g.S.Store c.self.inside.tables.0).now.trees in
     let early : HasCleanDisk (state g.S.Store c.self.inside.tables.0) = omega (arith, honest.clean, c.remove.ensures.crash.clean) in
     let works = rw (← c.self.view_is) at c.requires.open in
-    as_it_was_or g.S.Store g.met.S.Store.settled honest.one_state (Turns c.args.name.now None old) c.args.name.now None c.self.inside.tables c.remove.new.tables (c.is_latched-live.ensures.ready works early) c.remove.ensures.crash
+    as_it_was_or g.S.Store g.met.S.Store.settled honest.one_state (Turns c.args.name.now None old) c.args.name.now None c.self.inside.tables c.remove.new.tables (c.remove.ensures.ready early) c.remove.ensures.crash
     (λ db made. made) honest.clean)
