@@ -293,6 +293,8 @@ def room(runner, folder):
         answer = runner.said("drain", folder, "host0")
         most = max((it["used_after"] for it in answer["usage"]))
         equals(f"{size}: fullest", answer["fullest"]["used_after"], most)
+        # kb_used is rounded down, so that these lose more than they are said to hold
+        equals(f"{size}: emptied", [it["used_after"] for it in answer["usage"] if not it["copies_after"]], [0, 0, 0])
         equals(f"{size}: past near-full", bool(answer["past_nearfull"]), most > 0.85)
         equals(f"{size}: status", answer["status"], int(most > 0.9))
         equals(f"{size}: warnings", answer["warnings"], [])
