@@ -2,16 +2,18 @@
 use Rattle.std.specs.Prelude.{ℕ, List, Option, Some, None, codes, if◌then◌else◌}
 use Rattle.std.specs.Str.{bytes_eq}
 use Rattle.crush_types.specs.declared.word.Kind.{Kind}
-use Rattle.crush_types.specs.declared.word.Kind.TheVariants.{Uniform, List as ListKind, Tree}
+use Rattle.crush_types.specs.declared.word.Kind.TheVariants.{Uniform, List as ListKind, Tree, Straw2}
 
 abbrev pub kind_name : Kind → List ℕ
 kind_name Uniform = codes "uniform"
 kind_name ListKind = codes "list"
 kind_name Tree = codes "tree"
+kind_name Straw2 = codes "straw2"
 
--- the kind with a name
+-- the kind with a name, of those that each text and each request may name; straw2 is named in texts
+-- that ask for it alone
 abbrev pub kind_named : List ℕ → Option Kind
 kind_named name =
-    if bytes_eq name (codes "uniform") then Some Uniform
-    else (if bytes_eq name (codes "list") then Some ListKind
-    else (if bytes_eq name (codes "tree") then Some Tree else None))
+    if bytes_eq name (kind_name Uniform) then Some Uniform
+    else (if bytes_eq name (kind_name ListKind) then Some ListKind
+    else (if bytes_eq name (kind_name Tree) then Some Tree else None))

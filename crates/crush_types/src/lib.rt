@@ -5,6 +5,7 @@
 #![tactic(auto)]
 
 mod by_device;
+pub mod laws;
 pub mod limits;
 mod list;
 mod text;

@@ -2,7 +2,7 @@
 
 ghost use Rattle.std.specs.Prelude.{◌≡◌};
 ghost use Rattle.std.specs.Int.{cast_unsigned, w32};
-ghost use Rattle.crush_types.specs.Kinds.{kind_named};
+ghost use Rattle.crush_types.specs.Kinds.{kind_name, kind_named};
 
 /// A weight or reweight in 16.16 fixed point: 65536 is 1.0.
 #[derive(Clone, Copy, Debug, PartialEq, Eq)]
@@ -27,18 +27,32 @@ pub enum Kind {
     Uniform,
     List,
     Tree,
+    Straw2,
 }
 
 impl Kind {
-    /// Returns the kind with a name: `uniform`, `list` or `tree`.
+    /// Returns the kind's name.
+    pub fn name(self) -> &'static str
+        ensures { result.now ≡ kind_name self }
+    {
+        match self {
+            Kind::Uniform => "uniform",
+            Kind::List => "list",
+            Kind::Tree => "tree",
+            Kind::Straw2 => "straw2",
+        }
+    }
+
+    /// Returns the kind with a name that each text and each request may give: `uniform`, `list` or
+    /// `tree`. `straw2` is a name in texts that ask for it alone.
     pub fn named(name: &[u8]) -> Option<Kind>
         ensures { result ≡ kind_named name.now }
     {
-        if name == b"uniform".as_slice() {
+        if name == Kind::Uniform.name().as_bytes() {
             Some(Kind::Uniform)
-        } else if name == b"list".as_slice() {
+        } else if name == Kind::List.name().as_bytes() {
             Some(Kind::List)
-        } else if name == b"tree".as_slice() {
+        } else if name == Kind::Tree.name().as_bytes() {
             Some(Kind::Tree)
         } else {
             None
