@@ -11,7 +11,8 @@ use Rattle.crush_map.specs.declared.draft.Bucket.{Bucket}
 use Rattle.crush_map.specs.declared.draft.Device.{Device}
 use Rattle.crush_types.specs.declared.ItemId.{ItemId}
 use Rattle.crush_types.specs.declared.Kind.TheVariants.{Uniform}
-use Rattle.crush_map.specs.Faults.{is_bucket_id, is_uniform}
+use Rattle.crush_map.specs.Faults.{is_bucket_id}
+use Rattle.crush_types.specs.Kinds.{is_uniform}
 use Rattle.crush_types.specs.Weights.{has_equal_weights}
 use Rattle.crush_map.specs.Map.{Map}
 use Rattle.crush_map.specs.Sound as sound

@@ -1,7 +1,9 @@
 -- What each kind of bucket picks, for an input x and an attempt r (Weil et al., CRUSH, SC 2006;
 -- Ceph's `mapper.c`).
-use Rattle.std.specs.Prelude.{ℕ, zero, suc, ◌+◌, ◌-◌, ◌*◌, ◌/◌, ◌%◌, ◌^◌, List, length, Bool, nat_lt, nat_le, min, if◌then◌else◌, Option, Some, None, unwrap_or, slice_index}
-use Rattle.crush_hash.specs.Hash.{hash4}
+use Rattle.std.specs.Prelude.{ℕ, zero, suc, ◌+◌, ◌-◌, ◌*◌, ◌/◌, ◌%◌, ◌^◌, ◌==◌, List, length, Bool, nat_lt, nat_le, min, if◌then◌else◌, Option, Some, None, unwrap_or, slice_index}
+use Rattle.std.specs.List.{list_all, position_or_len}
+use Rattle.crush_hash.specs.Hash.{hash3, hash4}
+use Rattle.crush_ln.specs.Log.{delay}
 use Rattle.crush_types.specs.declared.ItemId.{ItemId}
 use Rattle.crush_kinds.specs.Bucket.{WeightedItem, word, item_at, weight_at, weight_within}
 use Rattle.crush_permutation.specs.Permutation.{permutation}
@@ -66,3 +68,29 @@ place_within id items x r from (suc h) =
 unfoldable pub tree_pick : ItemId → List WeightedItem → ℕ → ℕ → ItemId
 tree_pick id items x r =
     item_at items (min (place_within id items x r 0 (height_of (length items))) (length items - 1))
+
+-- ---- straw2: the item that arrives first
+
+-- later than any item that weighs something
+abbrev pub never : ℕ
+never = 2 ^ 48 + 1
+
+-- when an item of a weight arrives by its draw: the sooner, the more it weighs
+unfoldable pub time_of : ℕ → ℕ → ℕ
+time_of draw weight = if weight == 0 then never else delay draw / weight
+
+-- when an item arrives; its draw is the lower 16 bits of a hash, in which the bucket's id isn't
+abbrev pub arrival : ℕ → ℕ → WeightedItem → ℕ
+arrival x r item = time_of (hash3 x (word item.0) r % 65536) item.1.0
+
+-- whether an item arrives no later than any of a bucket's
+abbrev pub is_soonest : List WeightedItem → ℕ → ℕ → WeightedItem → Bool
+is_soonest items x r item = list_all (λ other. nat_le (arrival x r item) (arrival x r other)) items
+
+-- the first place whose item arrives no later than any; where none weighs anything, all arrive at
+-- once
+unfoldable pub straw2_place : List WeightedItem → ℕ → ℕ → ℕ
+straw2_place items x r = position_or_len (is_soonest items x r) items
+
+unfoldable pub straw2_pick : List WeightedItem → ℕ → ℕ → ItemId
+straw2_pick items x r = item_at items (straw2_place items x r)

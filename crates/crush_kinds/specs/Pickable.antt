@@ -1,22 +1,31 @@
 -- The items that a bucket can pick, whatever the input.
-use Rattle.std.specs.Prelude.{◌≡◌, ◌<◌, ◌-◌, nat_lt, Bool, if◌then◌else◌, List, SomeIndex, length, take, drop}
+use Rattle.std.specs.Prelude.{◌≡◌, ◌<◌, ◌-◌, ◌&&◌, nat_lt, not, Bool, if◌then◌else◌, List, SomeIndex, length, take, drop}
 use Rattle.std.specs.List.{filter, list_any}
 use Rattle.crush_types.specs.declared.ItemId.{ItemId}
 use Rattle.crush_types.specs.declared.Kind.{Kind}
-use Rattle.crush_types.specs.declared.Kind.TheVariants.{Uniform, List as ListKind, Tree}
+use Rattle.crush_types.specs.declared.Kind.TheVariants.{Uniform, List as ListKind, Tree, Straw2}
+use Rattle.crush_types.specs.Kinds.{is_uniform}
 use Rattle.crush_kinds.specs.Bucket.{WeightedItem, BucketView, item_at, weight_at}
 
 -- whether an item weighs something
 abbrev pub weighs : WeightedItem → Bool
 weighs item = nat_lt 0 item.1.0
 
--- the items that a bucket of this kind can pick: a list or a tree those that weigh something, if
--- there are any; where none does, a list its first item and a tree its last; a uniform bucket all,
--- whatever they weigh
+-- the items that a bucket of this kind can pick where it doesn't go by weights, or none weighs
+-- anything: a uniform bucket all; a list or a straw2 bucket its first item, and a tree its last
+abbrev pub without_weights : Kind → List WeightedItem → List WeightedItem
+without_weights Uniform items = items
+without_weights ListKind items = take 1 items
+without_weights Tree items = drop (length items - 1) items
+without_weights Straw2 items = take 1 items
+
+-- whether a bucket of this kind picks items of weight above 0 alone
+abbrev pub picks_by_weight : Kind → List WeightedItem → Bool
+picks_by_weight kind items = not (is_uniform kind) && list_any weighs items
+
+-- the items that a bucket of this kind can pick
 abbrev pub pickable_as : Kind → List WeightedItem → List WeightedItem
-pickable_as Uniform items = items
-pickable_as ListKind items = if list_any weighs items then filter weighs items else take 1 items
-pickable_as Tree items = if list_any weighs items then filter weighs items else drop (length items - 1) items
+pickable_as kind items = if picks_by_weight kind items then filter weighs items else without_weights kind items
 
 abbrev pub pickable : BucketView → List WeightedItem
 pickable b = pickable_as b.kind b.items

@@ -6,7 +6,7 @@
 use Rattle.std.specs.Prelude.{ℕ, ◌==◌, ◌+◌, ◌*◌, ◌%◌, ◌&&◌, length, if◌then◌else◌}
 use Rattle.std.specs.Ordering.{int_eq}
 use Rattle.crush_types.specs.declared.ItemId.{ItemId}
-use Rattle.crush_map.specs.Faults.{is_uniform}
+use Rattle.crush_types.specs.Kinds.{is_uniform}
 use Rattle.crush_kinds.specs.Bucket.{BucketView}
 use Rattle.crush_kinds.specs.Pick.{pick}
 use Rattle.crush_select.specs.declared.walk.Reached.{Reached}

@@ -19,8 +19,8 @@ use Rattle.crush_map.specs.declared.draft.MapDraft.{MapDraft}
 use Rattle.crush_types.specs.declared.ItemId.{ItemId}
 use Rattle.crush_types.specs.declared.Weight.{Weight}
 use Rattle.crush_types.specs.declared.Kind.{Kind}
-use Rattle.crush_types.specs.declared.Kind.TheVariants.{Uniform, List as ListKind, Tree}
-use Rattle.crush_map.specs.declared.limits.TheConstants.{TYPE_LIMIT, DEVICE_LIMIT, BUCKET_LIMIT, ITEM_LIMIT, TOTAL_WEIGHT_LIMIT, RULE_LIMIT, STEP_LIMIT, NAME_LIMIT, NUMBER_LIMIT, RULE_ID_LIMIT, COUNT_LIMIT, TRIES_LIMIT, TOTAL_TRIES_LIMIT, VARY_R_LIMIT}
+use Rattle.crush_types.specs.Kinds.{is_straw2, is_uniform}
+use Rattle.crush_map.specs.declared.limits.TheConstants.{TYPE_LIMIT, DEVICE_LIMIT, BUCKET_LIMIT, ITEM_LIMIT, TOTAL_WEIGHT_LIMIT, STRAW2_WEIGHT_LIMIT, RULE_LIMIT, STEP_LIMIT, NAME_LIMIT, NUMBER_LIMIT, RULE_ID_LIMIT, COUNT_LIMIT, TRIES_LIMIT, TOTAL_TRIES_LIMIT, VARY_R_LIMIT}
 use Rattle.crush_types.specs.Weights.{has_equal_weights, total_weight}
 
 -- ---- checks in order
@@ -156,18 +156,21 @@ items_fault known before (item ∷ items) = first_of (
     ∷ items_fault known (with_id before item.0.0) items
     ∷ [])
 
--- whether all items of a bucket of this kind must have the same weight
-abbrev pub is_uniform : Kind → Bool
-is_uniform Uniform = true
-is_uniform ListKind = false
-is_uniform Tree = false
+-- whether an item's weight is above STRAW2_WEIGHT_LIMIT: Ceph takes a weight of a straw2 bucket as a
+-- signed number of 32 bits
+abbrev pub is_heavy : ItemId × Weight → Bool
+is_heavy item = nat_lt STRAW2_WEIGHT_LIMIT item.1.0
+
+-- whether the weights of a bucket of this kind have too great a sum, or one of them is too great
+abbrev pub is_too_heavy : Kind → List (ItemId × Weight) → Bool
+is_too_heavy alg items = nat_lt TOTAL_WEIGHT_LIMIT (total_weight items) || (is_straw2 alg && list_any is_heavy items)
 
 -- the first fault of the items and weights of a bucket of this kind
 unfoldable pub contents_fault : Known → Kind → List (ItemId × Weight) → Option FaultCode
 contents_fault known alg items = first_of (
     items_fault known no_ids items
     ∷ (M8 when (is_uniform alg && not (has_equal_weights items)))
-    ∷ (M7 when nat_lt TOTAL_WEIGHT_LIMIT (total_weight items))
+    ∷ (M7 when is_too_heavy alg items)
     ∷ [])
 
 -- of a bucket: there are BUCKET_LIMIT already; its id is out of range, or declared already; its

@@ -10,7 +10,8 @@ use Rattle.crush_map.specs.declared.draft.Step.TheVariants.{Take, SetChooseTries
 use Rattle.crush_types.specs.declared.ItemId.{ItemId}
 use Rattle.crush_types.specs.declared.Weight.{Weight}
 use Rattle.crush_map.specs.declared.limits.TheConstants.{TYPE_LIMIT, DEVICE_LIMIT, BUCKET_LIMIT, ITEM_LIMIT, RULE_LIMIT, STEP_LIMIT, NUMBER_LIMIT, RULE_ID_LIMIT, TRIES_LIMIT, VARY_R_LIMIT}
-use Rattle.crush_map.specs.Faults.{is_bucket_id, is_uniform, is_count, is_name, is_reserved}
+use Rattle.crush_map.specs.Faults.{is_bucket_id, is_heavy, is_count, is_name, is_reserved}
+use Rattle.crush_types.specs.Kinds.{is_straw2, is_uniform}
 use Rattle.crush_types.specs.Weights.{has_equal_weights, total_weight}
 use Rattle.crush_map.specs.Map.{Map}
 
@@ -56,6 +57,7 @@ pub record IsBucketAt (m : Map) (i : ℕ) (b : Bucket) : Type 0 where
   pub items : (j : ℕ) → IfSome (slice_get b.items j) (λ item. IsItemAt m i j b.items item.0.0)
   pub even : is_uniform b.alg ≡ true → has_equal_weights b.items ≡ true
   pub light : total_weight b.items < 2 ^ 32
+  pub signed : is_straw2 b.alg ≡ true → list_any is_heavy b.items ≡ false
 
 -- a choose step
 pub record IsChoose (m : Map) (firstn leaf : Bool) (n : ℤ) (wanted : ℕ) : Type 0 where

@@ -21,6 +21,9 @@ pub const ITEM_LIMIT: usize = 4_096;
 /// The greatest sum of a bucket's weights, in 16.16 fixed point.
 pub const TOTAL_WEIGHT_LIMIT: u64 = 4_294_967_295;
 
+/// The greatest weight of an item of a straw2 bucket, as 16.16 fixed point: just below 32768.0.
+pub const STRAW2_WEIGHT_LIMIT: u32 = 2_147_483_647;
+
 /// The most rules of a map.
 pub const RULE_LIMIT: usize = 64;
 

@@ -5,7 +5,7 @@
 -- each bucket.
 use Rattle.std.specs.Prelude.{ℕ, zero, suc, ◌+◌, ◌*◌, ◌%◌, ◌&&◌, ◌==◌, Option, Some, None, if◌then◌else◌}
 use Rattle.crush_types.specs.declared.ItemId.{ItemId}
-use Rattle.crush_map.specs.Faults.{is_uniform}
+use Rattle.crush_types.specs.Kinds.{is_uniform}
 use Rattle.crush_bucket.specs.Tables.{TablesView, pick_at, type_at, kind_at, size_at, bucket_numbered}
 use Rattle.crush_select.specs.declared.walk.Reached.{Reached}
 use Rattle.crush_select.specs.declared.walk.Reached.TheVariants.{Empty, Wrong, Found}

@@ -19,7 +19,8 @@ use Rattle.crush_map.specs.declared.draft.Rule.{Rule}
 use Rattle.crush_types.specs.declared.ItemId.{ItemId}
 use Rattle.crush_types.specs.declared.Weight.{Weight}
 use Rattle.crush_types.specs.declared.Kind.{Kind}
-use Rattle.crush_map.specs.Faults.{Known, Ids, first_of, or_else, ◌when◌, at_place, first_in, nothing, no_ids, has_number, has_id, has_name, with_id, is_name, is_bucket_id, is_uniform, items_fault, contents_fault, type_fault, device_fault, bucket_fault, rule_fault, choose_fault, step_fault, steps_fault, rule_head_checks, end_fault, with_type, with_device, with_bucket, with_rule, known_types, known_devices, known_buckets, known_rules, element_fault, first_fault}
+use Rattle.crush_map.specs.Faults.{Known, Ids, first_of, or_else, ◌when◌, at_place, first_in, nothing, no_ids, has_number, has_id, has_name, with_id, is_name, is_bucket_id, items_fault, contents_fault, type_fault, device_fault, bucket_fault, rule_fault, choose_fault, step_fault, steps_fault, rule_head_checks, end_fault, with_type, with_device, with_bucket, with_rule, known_types, known_devices, known_buckets, known_rules, element_fault, first_fault}
+use Rattle.crush_types.specs.Kinds.{is_uniform}
 use Rattle.crush_grammar.specs.Syntax.{Text, Early, Late, early_declares, late_declares, text_declares}
 use Rattle.crush_grammar.specs.Syntax.Early.{ATunable, ADevice, AType}
 use Rattle.crush_grammar.specs.Syntax.Late.{ABucket, ARule}

@@ -1,5 +1,5 @@
 -- The names of the kinds of buckets, as Ceph's CRUSH map manual has them.
-use Rattle.std.specs.Prelude.{ℕ, List, Option, Some, None, codes, if◌then◌else◌}
+use Rattle.std.specs.Prelude.{ℕ, Bool, true, false, List, Option, Some, None, codes, if◌then◌else◌}
 use Rattle.std.specs.Str.{bytes_eq}
 use Rattle.crush_types.specs.declared.word.Kind.{Kind}
 use Rattle.crush_types.specs.declared.word.Kind.TheVariants.{Uniform, List as ListKind, Tree, Straw2}
@@ -17,3 +17,16 @@ kind_named name =
     if bytes_eq name (kind_name Uniform) then Some Uniform
     else (if bytes_eq name (kind_name ListKind) then Some ListKind
     else (if bytes_eq name (kind_name Tree) then Some Tree else None))
+
+-- whether all items of a bucket of this kind must have the same weight
+abbrev pub is_uniform : Kind → Bool
+is_uniform Uniform = true
+is_uniform ListKind = false
+is_uniform Tree = false
+is_uniform Straw2 = false
+
+abbrev pub is_straw2 : Kind → Bool
+is_straw2 Straw2 = true
+is_straw2 Uniform = false
+is_straw2 ListKind = false
+is_straw2 Tree = false

@@ -2,7 +2,7 @@
 
 ghost use Rattle.std.specs.Prelude.{◌≡◌};
 ghost use Rattle.std.specs.Int.{cast_unsigned, w32};
-ghost use Rattle.crush_types.specs.Kinds.{kind_name, kind_named};
+ghost use Rattle.crush_types.specs.Kinds.{is_straw2, is_uniform, kind_name, kind_named};
 
 /// A weight or reweight in 16.16 fixed point: 65536 is 1.0.
 #[derive(Clone, Copy, Debug, PartialEq, Eq)]
@@ -57,5 +57,19 @@ impl Kind {
         } else {
             None
         }
+    }
+
+    /// Returns whether all items of a bucket of this kind must have the same weight.
+    pub fn is_uniform(self) -> bool
+        ensures { result ≡ is_uniform self }
+    {
+        matches!(self, Kind::Uniform)
+    }
+
+    /// Returns whether this is `Kind::Straw2`.
+    pub fn is_straw2(self) -> bool
+        ensures { result ≡ is_straw2 self }
+    {
+        matches!(self, Kind::Straw2)
     }
 }

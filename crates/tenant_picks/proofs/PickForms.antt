@@ -9,7 +9,7 @@ use Rattle.std.proofs.lemmas.Slice.Eq.{bytes_eq-Decides}
 use Rattle.serde_json.specs.Data.{Data}
 use Rattle.serde_json.specs.Find.{as_str}
 use Rattle.crush_kinds.specs.Bucket.{BucketView, WeightedItem, total_weight, HasEqualWeights}
-use Rattle.crush_map.specs.Faults.{is_uniform}
+use Rattle.crush_types.specs.Kinds.{is_uniform, kind_name, kind_named}
 use Rattle.crush_types.specs.Weights.{has_equal_weights}
 use Rattle.crush_map.specs.declared.limits.TheConstants.{ITEM_LIMIT, NUMBER_LIMIT, TOTAL_WEIGHT_LIMIT}
 use Rattle.crush_types.specs.declared.ItemId.{ItemId}
@@ -19,7 +19,6 @@ use Rattle.tenant_messages.proofs.Finding.{Finds, finds_as, finds_both, finds_in
 use Rattle.tenant_picks.proofs.Deciding.{Decides-distinct, Decides-none, Differ}
 use Rattle.tenant_picks.specs.declared.limits.TheConstants.{ATTEMPT_LIMIT}
 use Rattle.tenant_picks.specs.Picks.{weighed, entry_of, is_of_item, are_distinct, kind_of, is_valid, bucket_of, pick_of, IsItem, IsBucket, IsPickBody}
-use Rattle.crush_types.specs.Kinds.{kind_name, kind_named}
 use Rattle.tenant_messages.specs.Forms.{IsText}
 
 -- ---- an item

@@ -6,10 +6,9 @@ use Rattle.serde_json.specs.Data.{Data, number, object}
 use Rattle.serde_json.specs.Find.{as_str, of_integer}
 use Rattle.crush_kinds.specs.Bucket.{BucketView, WeightedItem, total_weight, HasEqualWeights}
 use Rattle.crush_kinds.specs.Pick.{pick}
-use Rattle.crush_map.specs.Faults.{is_uniform}
+use Rattle.crush_types.specs.Kinds.{is_uniform, kind_name, kind_named}
 use Rattle.crush_types.specs.Weights.{has_equal_weights}
 use Rattle.crush_types.specs.declared.ItemId.{ItemId}
-use Rattle.crush_types.specs.Kinds.{kind_name, kind_named}
 use Rattle.crush_map.specs.declared.limits.TheConstants.{ITEM_LIMIT, NUMBER_LIMIT, TOTAL_WEIGHT_LIMIT}
 use Rattle.crush_types.specs.declared.Kind.{Kind}
 use Rattle.crush_types.specs.declared.Kind.TheVariants.{Uniform}

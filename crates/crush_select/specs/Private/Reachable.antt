@@ -6,7 +6,7 @@ use Rattle.crush_types.specs.declared.ItemId.{ItemId}
 use Rattle.crush_map.specs.declared.limits.TheConstants.{BUCKET_LIMIT}
 use Rattle.crush_types.specs.declared.Kind.{Kind}
 use Rattle.crush_types.specs.declared.Kind.TheVariants.{Uniform, List as ListKind, Tree}
-use Rattle.crush_map.specs.Faults.{is_uniform}
+use Rattle.crush_types.specs.Kinds.{is_uniform}
 use Rattle.crush_kinds.specs.Bucket.{WeightedItem}
 use Rattle.crush_kinds.specs.Pickable.{weighs, pickable}
 use Rattle.crush_bucket.specs.Tables.{TablesView, bucket_at, type_at, bucket_numbered}
