@@ -179,7 +179,7 @@ step (IdLines h o) w = in_lines h o w
 step (IdWord h o) w = on X1 w (integer_of w.text) (λ i. to (IdNumber h o i))
 step (IdNumber h o i) w = if is (codes "class") w then to (IdClass h o) else plain h o i w
 step (IdClass h o) w = on X1 w (name_of w.text) (λ x. to (IdLines h o))
-step (AlgWord h i) w = on (if is (codes "straw") w || is (codes "straw2") w then X2 else X1) w (alg_of w.text) (λ a. to (Hashes (record { head = h; id = i; alg = a; items = [] })))
+step (AlgWord h i) w = on (if is (codes "straw") w || is (codes "straw2") w then X2 else X1) w (alg_of w) (λ a. to (Hashes (record { head = h; id = i; alg = a; items = [] })))
 step (Hashes b) w = if is (codes "hash") w then to (HashWord b) else in_items b w
 step (HashWord b) w = on X1 w (hash_of w.text) (λ h. to (Hashes b))
 step (Items b) w = in_items b w

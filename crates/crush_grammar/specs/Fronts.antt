@@ -36,9 +36,10 @@ is text w = bytes_eq w.text text
 abbrev pub is_token : Word → Bool
 is_token w = is_some (name_of w.text) || is (codes "{") w || is (codes "}") w
 
--- a word with this text; no line of a word decides whether words are a text
+-- a word with this text, of a text that doesn't ask for straw2; no line of a word decides whether
+-- words are a text
 abbrev pub word : List ℕ → Word
-word text = record { line = 0; text = text }
+word text = record { line = 0; text = text; straw2 = false }
 
 -- straw or straw2 as the algorithm of a bucket: with list and a brace after it, the front is a text
 -- that ends with a bucket without items, so that list is the algorithm there

@@ -2,8 +2,10 @@
 use Rattle.std.specs.Prelude.{ℕ, nat_lt, ◌&&◌, ◌||◌, Bool, true, false, List, length, Option, Some, None, if◌then◌else◌, codes, bytes_eq}
 use Rattle.std.specs.List.{list_all}
 use Rattle.crush_types.specs.declared.Kind.{Kind}
-use Rattle.crush_types.specs.Kinds.{kind_named}
+use Rattle.crush_types.specs.declared.Kind.TheVariants.{Straw2}
+use Rattle.crush_types.specs.Kinds.{kind_name, kind_named}
 use Rattle.crush_map.specs.Faults.{is_name_byte, is_reserved}
+use Rattle.crush_words.specs.Words.{Word}
 use Rattle.crush_grammar.specs.declared.declaration.TunableName.{TunableName}
 use Rattle.crush_grammar.specs.declared.declaration.TunableName.TheVariants as tunables
 use Rattle.crush_grammar.specs.declared.declaration.Setting.{Setting}
@@ -28,8 +30,9 @@ tunable_of text =
     else (if bytes_eq text (codes "straw_calc_version") then Some tunables.StrawCalcVersion
     else (if bytes_eq text (codes "allowed_bucket_algs") then Some tunables.AllowedBucketAlgs else None)))))))
 
-unfoldable pub alg_of : List ℕ → Option Kind
-alg_of text = kind_named text
+-- the kind of a bucket; straw2 in a text that asks for it alone
+unfoldable pub alg_of : Word → Option Kind
+alg_of w = if w.straw2 && bytes_eq w.text (kind_name Straw2) then Some Straw2 else kind_named w.text
 
 -- the hash: 0 or rjenkins1, which are the same
 unfoldable pub hash_of : List ℕ → Option ℕ

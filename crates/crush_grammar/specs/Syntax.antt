@@ -4,6 +4,7 @@
 -- rule of the grammar; its fields stand in the order of their words. Source: Ceph's CRUSH map
 -- manual and its compiler of map texts.
 use Rattle.std.specs.Prelude.{◌≡◌, ℕ, true, false, List, [], ◌∷◌, ◌++◌, map, Option, Some, None, codes, flat_map, option_map}
+use Rattle.crush_types.specs.declared.Kind.{Kind}
 use Rattle.crush_map.specs.WeightText.{weight_of}
 use Rattle.crush_words.specs.Words.{Word}
 use Rattle.crush_words.specs.Numbers.{number_of, integer_of}
@@ -94,6 +95,12 @@ early_declares (AType t) = declarations.TypeName (record { line = t.type.word.li
 
 -- ---- buckets
 
+-- a word that is the kind of a bucket
+pub record Algorithm : Type 0 where
+  pub word : Word
+  pub value : Kind
+  pub is : alg_of word ≡ Some value
+
 -- id INTEGER class NAME, which is dropped
 pub record ClassId : Type 0 where
   pub id : Keyword (codes "id")
@@ -138,7 +145,7 @@ pub record Bucket : Type 0 where
   pub number : Integer
   pub after : List ClassId
   pub alg : Keyword (codes "alg")
-  pub algorithm : Saying alg_of
+  pub algorithm : Algorithm
   pub hashes : List Hash
   pub items : List Item
   pub closing : Keyword (codes "}")

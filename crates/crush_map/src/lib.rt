@@ -13,6 +13,7 @@ mod known;
 mod law;
 pub mod limits;
 mod map;
+mod mark;
 mod names;
 mod numbers;
 
@@ -31,3 +32,4 @@ pub use law::{
     numbers_are_sound, rules_are_sound,
 };
 pub use map::CrushMap;
+pub use mark::straw2_mark;

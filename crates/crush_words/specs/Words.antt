@@ -1,8 +1,9 @@
 -- The words of a map text, and their lines.
 --
 -- Source: Ceph's CRUSH map manual and its compiler of map texts.
-use Rattle.std.specs.Prelude.{ℕ, ◌+◌, ◌==◌, ◌||◌, Bool, true, false, List, [], ◌∷◌, ◌++◌, map, codes, bytes_eq, if◌then◌else◌}
+use Rattle.std.specs.Prelude.{ℕ, ◌+◌, ◌==◌, ◌||◌, Bool, true, false, List, [], ◌∷◌, ◌++◌, map, bytes_eq, if◌then◌else◌}
 use Rattle.crush_map.specs.Faults.{is_name_byte}
+use Rattle.crush_map.specs.Mark.{straw2_mark}
 
 -- a word: a run of bytes that are allowed in names, or one other byte, such as a brace; the number
 -- of its line; and whether its text asks for straw2
@@ -17,10 +18,6 @@ pub record Word : Type 0 where
 abbrev pub first_line : List ℕ → List ℕ
 first_line [] = []
 first_line (b ∷ bytes) = if b == 10 then [] else b ∷ first_line bytes
-
--- the mark of a text that asks for straw2; to the grammar it is a comment
-abbrev pub straw2_mark : List ℕ
-straw2_mark = codes "# crushcalc: straw2"
 
 -- whether a text asks for straw2: its first line, less one CR at its end, is the mark
 unfoldable pub asks_for_straw2 : List ℕ → Bool

@@ -3,6 +3,7 @@
 -- Source: what `crushtool -d` writes, with its headings and no other remark and with five decimals
 -- in a weight.
 use Rattle.std.specs.Prelude.{ℕ, ℤ, pos, negsuc, ◌==◌, Bool, true, false, List, [], ◌∷◌, ◌++◌, codes, flat_map, if◌then◌else◌}
+use Rattle.std.specs.List.{list_any}
 use Rattle.std.specs.Ordering.{int_eq}
 use Rattle.std.specs.Fmt.{decimal, signed_decimal}
 use Rattle.crush_map.specs.declared.draft.TypeName.{TypeName}
@@ -14,8 +15,8 @@ use Rattle.crush_map.specs.declared.draft.Rule.{Rule}
 use Rattle.crush_map.specs.declared.draft.Tunables.{Tunables}
 use Rattle.crush_types.specs.declared.ItemId.{ItemId}
 use Rattle.crush_types.specs.declared.Weight.{Weight}
-use Rattle.crush_types.specs.declared.Kind.{Kind}
-use Rattle.crush_types.specs.declared.Kind.TheVariants.{Uniform, List as ListKind, Tree}
+use Rattle.crush_types.specs.Kinds.{is_straw2, kind_name}
+use Rattle.crush_map.specs.Mark.{straw2_mark}
 use Rattle.crush_map.specs.Map.{Map}
 use Rattle.crush_map.specs.WeightText.{text_of}
 
@@ -73,11 +74,6 @@ device_line d = line (codes "device" ∷ decimal d.id ∷ d.name ∷ [])
 unfoldable pub type_line : TypeName → List ℕ
 type_line t = line (codes "type" ∷ decimal t.number ∷ t.name ∷ [])
 
-abbrev pub alg_text : Kind → List ℕ
-alg_text Uniform = codes "uniform"
-alg_text ListKind = codes "list"
-alg_text Tree = codes "tree"
-
 unfoldable pub item_line : Map → ItemId × Weight → List ℕ
 item_line m item = inner_line (codes "item" ∷ item_name m item.0.0 ∷ codes "weight" ∷ text_of item.1 ∷ [])
 
@@ -85,7 +81,7 @@ unfoldable pub bucket_lines : Map → Bucket → List ℕ
 bucket_lines m b =
     line (type_name m.types b.kind_of ∷ b.name ∷ codes "{" ∷ [])
     ++ inner_line (codes "id" ∷ signed_decimal b.id.0 ∷ [])
-    ++ inner_line (codes "alg" ∷ alg_text b.alg ∷ [])
+    ++ inner_line (codes "alg" ∷ kind_name b.alg ∷ [])
     ++ inner_line (codes "hash" ∷ codes "0" ∷ [])
     ++ flat_map (item_line m) b.items
     ++ line (codes "}" ∷ [])
@@ -124,9 +120,17 @@ rule_lines m r =
 
 -- ---- maps
 
+-- whether a bucket needs the mark
+abbrev pub has_straw2 : Map → Bool
+has_straw2 m = list_any (λ b. is_straw2 b.alg) m.buckets
+
+-- the mark, before all else, where a bucket needs it
+unfoldable pub mark_line : Map → List ℕ
+mark_line m = if has_straw2 m then line (straw2_mark ∷ []) else []
+
 unfoldable pub canonical : Map → List ℕ
 canonical m =
-    codes "# begin crush map\n" ++ tunable_lines m.tunables
+    mark_line m ++ codes "# begin crush map\n" ++ tunable_lines m.tunables
     ++ codes "\n# devices\n" ++ flat_map device_line m.devices
     ++ codes "\n# types\n" ++ flat_map type_line m.types
     ++ codes "\n# buckets\n" ++ flat_map (bucket_lines m) m.buckets
