@@ -13,6 +13,7 @@ pub mod list_laws;
 mod picker;
 mod soonest;
 mod straw2;
+pub mod straw2_laws;
 mod sums;
 mod tree;
 mod uniform;
