@@ -23,7 +23,7 @@ import contracting  # noqa: E402
 PAGE = "docs/DEFINITIONS.md"
 
 # functions of Ceph that no comment names, the crate server_tests, and words of commands
-ELSEWHERE = {"_remove_nonexistent_osds", "bucket_list_choose", "bucket_tree_choose", "find_rule"}
+ELSEWHERE = {"_remove_nonexistent_osds", "bucket_list_choose", "bucket_straw2_choose", "bucket_tree_choose"}
 ELSEWHERE |= {"server_tests", "tools", "contracts", "CRATE", "plant", "_of_the_form"}
 
 # ---- a source, of a module whose names LIB shows in part
