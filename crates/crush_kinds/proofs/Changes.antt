@@ -1,9 +1,8 @@
 -- What changes of weights leave as it was in a straw2 bucket.
 use Rattle.std.proofs.Common.{◌≡◌, ◌≢◌, ℕ, ◌<◌, ◌≤◌, List, length, refl, ap, sym, ◌∙◌, arith, ◌⊎◌, inl, inr}
-use Rattle.crush_types.specs.declared.ItemId.{ItemId}
 use Rattle.crush_kinds.specs.Bucket.{WeightedItem, at, item_at, weight_at}
 use Rattle.crush_kinds.specs.Kinds.{arrival, straw2_place, straw2_pick}
-use Rattle.crush_kinds.specs.Straw2Laws.{IsFirst, HasSameItems, IsLowered, DiffersAt}
+use Rattle.crush_kinds.specs.Straw2Laws.{HasSameItems, IsLowered, DiffersAt}
 use Rattle.crush_kinds.proofs.First.{first_is}
 use Rattle.crush_kinds.proofs.Arrivals.{lighter_later}
 
