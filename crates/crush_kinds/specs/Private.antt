@@ -3,4 +3,5 @@ pub mod Asked
 pub mod ByKind
 pub mod Descent
 pub mod Kept
+pub mod Soonest
 pub mod Walks
