@@ -105,7 +105,7 @@ CITED = {("one", "Held", "Holds"), ("one", "Held", "IsOpen"), ("two", "Rows", "R
 
 # ---- the calls of some crates
 KNOWN = {
-    "crush_hash": "hash1 hash2 hash3 hash4 hash5 name_hash hash3_lanes hash3_each hash4_each hash4_four hash4_lanes",
+    "crush_hash": "hash1 hash2 hash3 hash4 hash5 name_hash hash3_lanes hash3_each hash3_four hash3_items hash4_each hash4_four hash4_lanes",
     "crush_permutation": "Perm::build Perm::member Perm::kept Perms::build Perms::member eight_members permutation_has_each_place a_perm_keeps_few_places",
     "crush_writing": "write_map",
     "tenant_picks": "read_pick answer AskedBucket::new AskedBucket::pick picks_are_of_the_form",
