@@ -1,6 +1,6 @@
 -- What private clauses alone cite: how the code works. No public clause depends on it.
 pub mod Asked
-pub mod ByKind
 pub mod Descent
+pub mod Draw
 pub mod Kept
 pub mod Walks

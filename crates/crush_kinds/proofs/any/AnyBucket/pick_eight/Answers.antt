@@ -5,7 +5,7 @@ use Rattle.crush_types.specs.declared.ItemId.{ItemId}
 use Rattle.crush_kinds.specs.Pick.{pick}
 use Rattle.crush_permutation.specs.Permutation.{no_id}
 use Rattle.crush_permutation.proofs.Lanes.{more_set}
-use Rattle.crush_kinds.proofs.uniform.UniformBucketPicker.pick_eight.Goals as goal
+use Rattle.crush_kinds.proofs.any.AnyBucket.pick_eight.Goals as goal
 
 pub returns-in-Some-clause-picked : goal.returns-in-Some-clause-picked
 returns-in-Some-clause-picked c lane low =

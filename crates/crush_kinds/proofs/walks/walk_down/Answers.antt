@@ -4,7 +4,7 @@ use Rattle.crush_kinds.specs.Bucket.{word}
 use Rattle.crush_kinds.specs.Private.Walks.{IsOnWay}
 use Rattle.crush_permutation.proofs.Lanes.{below_eight}
 use Rattle.crush_kinds.proofs.Ways.{way_node}
-use Rattle.crush_kinds.proofs.walks.pick_trees.Goals as goal
+use Rattle.crush_kinds.proofs.walks.walk_down.Goals as goal
 
 pub loop-left-init : goal.loop-left-init
 loop-left-init c lane d low = c.begin-highest.ensures.roots lane d (slice_index c.args.xs.now lane) c.args.r low
@@ -12,7 +12,7 @@ loop-left-init c lane d low = c.begin-highest.ensures.roots lane d (slice_index 
 pub children-nodes-requires : goal.children-nodes-requires
 children-nodes-requires c lane d low =
     let l = c.loop-left in
-    let b = (slice_index_or c.args.trees.now lane d).now in
+    let b = (slice_index_or c.args.trees.now lane d) in
     let x = slice_index c.args.xs.now lane in
     let left : l.left ≡ l.left - 1 + 1 = omega arith in
     way_node b x c.args.r (l.left - 1 + 1) (slice_index l.nodes lane) (subst (λ (n : ℕ). IsOnWay b x c.args.r n (slice_index l.nodes lane)) left (l.invariant lane d low))
@@ -20,7 +20,7 @@ children-nodes-requires c lane d low =
 pub loop-left-preserved : goal.loop-left-preserved
 loop-left-preserved c lane d low =
     let l = c.loop-left in
-    let b = (slice_index_or c.args.trees.now lane d).now in
+    let b = (slice_index_or c.args.trees.now lane d) in
     let x = slice_index c.args.xs.now lane in
     let r = c.args.r in
     let node = slice_index l.nodes lane in
@@ -34,7 +34,7 @@ loop-left-preserved c lane d low =
 pub returns : goal.returns
 returns c lane d low =
     let l = c.loop-left in
-    let b = (slice_index_or c.args.trees.now lane d).now in
+    let b = (slice_index_or c.args.trees.now lane d) in
     let x = slice_index c.args.xs.now lane in
     let end : l.left ≡ 0 = omega arith in
     c.items_at.ensures lane d low x c.args.r (subst (λ (n : ℕ). IsOnWay b x c.args.r n (slice_index l.nodes lane)) end (l.invariant lane d low))

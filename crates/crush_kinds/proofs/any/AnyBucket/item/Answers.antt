@@ -1,7 +1,7 @@
 use Rattle.std.proofs.Common.{◌≡◌, ◌<◌, length, slice_index_or, ap, arith, sym, ◌∙◌}
 use Rattle.std.proofs.lemmas.List.{get_or_default}
 use Rattle.crush_kinds.specs.Bucket.{BucketView, WeightedItem, no_item}
-use Rattle.crush_kinds.proofs.uniform.UniformBucket.item.Goals as goal
+use Rattle.crush_kinds.proofs.any.AnyBucket.item.Goals as goal
 
 pub returns-clause-item : goal.returns-clause-item
 returns-clause-item c =
