@@ -3,4 +3,5 @@ pub mod Asked
 pub mod Descent
 pub mod Draw
 pub mod Kept
+pub mod Soonest
 pub mod Walks

@@ -111,7 +111,7 @@ fn first_words(items: &[(ItemId, Weight)], count: usize) -> [u32; 8]
 
 /// Returns the word of the item at `place`, or of the item at `last` where that is lower.
 #[inline]
-fn word_up_to(items: &[(ItemId, Weight)], last: usize, place: usize) -> u32
+pub(crate) fn word_up_to(items: &[(ItemId, Weight)], last: usize, place: usize) -> u32
     requires { last < length items.now }
     ensures { place ≤ last → result ≡ word (item_at items.now place) }
 {
@@ -147,7 +147,7 @@ fn last_of_eight(
 
 /// Returns the words by which the eight items from `from` on enter a hash.
 #[inline]
-fn words(items: &[(ItemId, Weight)], from: usize) -> [u32; 8]
+pub(crate) fn words(items: &[(ItemId, Weight)], from: usize) -> [u32; 8]
     requires within { from + 8 ≤ length items.now }
     requires few { length items.now < 2 ^ 16 }
     ensures { (n : ℕ) → n < 8 → slice_index result n ≡ word (item_at items.now (from + n)) }

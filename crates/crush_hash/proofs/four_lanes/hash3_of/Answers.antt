@@ -1,6 +1,6 @@
 use Rattle.std.proofs.Common.{◌≡◌, refl, ap}
 use Rattle.crush_hash.specs.Hash.{hash3, Words}
-use Rattle.crush_hash.proofs.four_lanes.hash3_lanes.Goals as goal
+use Rattle.crush_hash.proofs.four_lanes.hash3_of.Goals as goal
 
 first : {u v : Words} → u ≡ v → u.0 ≡ v.0
 first e = ap (λ (w : Words). w.0) e
@@ -29,8 +29,6 @@ returns c n h =
       c.xor-h2.ensures n h,
       c.xor-h1.ensures n h,
       c.splat.ensures n h,
-      c.splat-a.ensures n h,
-      c.splat-b.ensures n h,
       c.splat-2.ensures n h,
       c.splat-3.ensures n h,
     ) refl
