@@ -2,7 +2,7 @@
 use Rattle.std.proofs.Common.{◌≡◌, ℕ, zero, suc, ◌+◌, ◌-◌, ◌<◌, ◌≤◌, List, [], ◌∷◌, ◌++◌, length, refl, ap, sym, ◌∙◌, arith, add-one, ◌⊎◌, inl, inr, length-append}
 use Rattle.std.proofs.Math.Seq.{get_or-append_seam}
 use Rattle.std.proofs.lemmas.List.{get_or_append_left}
-use Rattle.crush_kinds.specs.Bucket.{WeightedItem, no_item, at, item_at}
+use Rattle.crush_kinds.specs.Bucket.{WeightedItem, no_item, at}
 use Rattle.crush_kinds.specs.Kinds.{arrival, straw2_place, straw2_pick}
 use Rattle.crush_kinds.specs.Straw2Laws.{IsFirst}
 use Rattle.crush_kinds.proofs.First.{is_place, first_is}

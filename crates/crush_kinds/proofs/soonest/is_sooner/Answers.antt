@@ -1,4 +1,4 @@
-use Rattle.std.proofs.Common.{◌≡◌, ◌+◌, ◌*◌, ◌/◌, ◌<◌, ◌≤◌, refl, arith, sym}
+use Rattle.std.proofs.Common.{◌+◌, ◌*◌, ◌≤◌, arith, sym}
 use Rattle.crush_kinds.proofs.Quotients.{none_not_less, less_than_none, above_not_less, far_below_less, by_division}
 use Rattle.crush_kinds.proofs.soonest.is_sooner.Goals as goal
 

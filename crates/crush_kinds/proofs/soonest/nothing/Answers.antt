@@ -1,5 +1,5 @@
-use Rattle.std.proofs.Common.{◌≡◌, ◌≤◌, refl, arith}
-use Rattle.crush_kinds.specs.Kinds.{never, time_of}
+use Rattle.std.proofs.Common.{◌≡◌, refl, arith}
+use Rattle.crush_kinds.specs.Kinds.{never}
 use Rattle.crush_kinds.specs.Private.Soonest.{quotient}
 use Rattle.crush_kinds.proofs.Arrivals.{time_none}
 use Rattle.crush_kinds.proofs.Quotients.{quotient_none}

@@ -1,5 +1,4 @@
-use Rattle.std.proofs.Common.{◌≡◌, ◌<◌, ◌≤◌, nat_lt, true, false, min, refl, arith, sym, ◌∙◌}
-use Rattle.crush_ln.specs.Log.{delay}
+use Rattle.std.proofs.Common.{◌≡◌, nat_lt, true, false, refl, arith, sym, ◌∙◌}
 use Rattle.crush_kinds.specs.Kinds.{time_of}
 use Rattle.crush_kinds.specs.Private.Soonest.{quotient, time}
 use Rattle.crush_kinds.proofs.Offers.{better, no_better}

@@ -1,4 +1,4 @@
-use Rattle.std.proofs.Common.{ℕ, ◌<◌, slice_index, arith}
+use Rattle.std.proofs.Common.{slice_index, arith}
 use Rattle.crush_kinds.proofs.Offers.{offered_at}
 use Rattle.crush_kinds.proofs.straw2.offer_lanes.Goals as goal
 

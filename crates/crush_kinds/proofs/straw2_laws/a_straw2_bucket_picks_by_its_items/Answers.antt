@@ -1,4 +1,4 @@
-use Rattle.std.proofs.Common.{◌≡◌, refl, ap}
+use Rattle.std.proofs.Common.{refl, ap}
 use Rattle.crush_types.specs.declared.Kind.{Kind}
 use Rattle.crush_kinds.specs.Pick.{pick, pick_as}
 use Rattle.crush_kinds.proofs.Changes.{at_place}
