@@ -224,6 +224,20 @@ def equal_lacks():
     ])
 
 
+def great_weights():
+    """Weights by which different logarithms give equal lacks: the first of them is picked at each input
+    that isn't small, though another's logarithm is greater. And weights at both sides of 2^30."""
+    few = [(1, x) for x in range(20)]
+    return of_weights([
+        ([(0, 20_000 * ONE), (1, 20_000 * ONE)], [(1, x) for x in (112120, 194861, 245824, 249100, 255026)]),
+        ([(0, GREATEST), (1, 20_000 * ONE)], few + [(1, x) for x in (24050, 65095, 71452, 100710, 186536)]),
+        ([(5, 30_000 * ONE), (4, 10_000 * ONE)], few + [(1, x) for x in (217198, 243222, 380301, 526588, 618108)]),
+        ([(0, 2**30), (1, 2**30 - 1), (2, 2**30 + 1)], few),
+        ([(0, 2**30 + 1), (1, ONE)], few),
+        ([(0, GREATEST), (1, GREATEST), (2, 1)], few),
+    ])
+
+
 def tables_as_they_are():
     """Inputs at which the rests' logarithms by their formula would pick another item."""
     return of_weights([(TWELVE, [(1, x) for x in (360, 19093, 31766)])])
@@ -242,5 +256,5 @@ def placements():
 
 
 def cases():
-    for make in (texts_that_ask, canonical_texts, texts_apart, picks_by_request, worked_rows, sizes, mixed_weights, equal_lacks, tables_as_they_are, placements):
+    for make in (texts_that_ask, canonical_texts, texts_apart, picks_by_request, worked_rows, sizes, mixed_weights, equal_lacks, great_weights, tables_as_they_are, placements):
         yield make.__name__, make()
