@@ -1,10 +1,11 @@
 -- When the items of a straw2 bucket arrive.
-use Rattle.std.proofs.Common.{◌≡◌, ℕ, ◌*◌, ◌/◌, ◌%◌, ◌<◌, ◌≤◌, ◌^◌, ◌==◌, false, refl, ap, arith, ◌⊎◌, inl, inr}
+use Rattle.std.proofs.Common.{◌≡◌, ℕ, ◌*◌, ◌/◌, ◌%◌, ◌<◌, ◌≤◌, ◌==◌, false, refl, ap, arith, ◌⊎◌, inl, inr}
 use Rattle.std.proofs.lemmas.Bool.Decides.{nat_tests}
 use Rattle.std.proofs.lemmas.Nat.{le-div}
 use Rattle.std.proofs.Math.Nat.{div-le_self, mul-le-mul_left, div-mul-le_self}
 use Rattle.crush_hash.specs.Hash.{hash3}
 use Rattle.crush_ln.specs.Log.{delay}
+use Rattle.crush_ln.proofs.Rising.{delay_small}
 use Rattle.crush_types.specs.declared.ItemId.{ItemId}
 use Rattle.crush_kinds.specs.Bucket.{WeightedItem, word}
 use Rattle.crush_kinds.specs.Kinds.{never, time_of, arrival}
@@ -16,10 +17,6 @@ time_none draw weight e = rw e refl
 pub time_some : (draw weight : ℕ) → 0 < weight → time_of draw weight ≡ delay draw / weight
 unfolding time_of
 time_some draw weight some = let t : (weight == 0) ≡ false = grind (arith, nat_tests) in rw t refl
-
-pub delay_small : (draw : ℕ) → delay draw ≤ 2 ^ 48
-unfolding delay
-delay_small draw = omega arith
 
 pub time_small : (draw weight : ℕ) → time_of draw weight ≤ never
 time_small draw weight =

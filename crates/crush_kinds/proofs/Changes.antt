@@ -2,7 +2,7 @@
 use Rattle.std.proofs.Common.{◌≡◌, ◌≢◌, ℕ, ◌<◌, ◌≤◌, List, length, refl, ap, sym, ◌∙◌, arith, ◌⊎◌, inl, inr}
 use Rattle.crush_kinds.specs.Bucket.{WeightedItem, at, item_at, weight_at}
 use Rattle.crush_kinds.specs.Kinds.{arrival, straw2_place, straw2_pick}
-use Rattle.crush_kinds.specs.Straw2Laws.{HasSameItems, IsLowered, DiffersAt}
+use Rattle.crush_kinds.specs.Straw2Laws.{HasSameItems, IsLowered, DiffersAt, AllAreAmong}
 use Rattle.crush_kinds.proofs.First.{first_is}
 use Rattle.crush_kinds.proofs.Arrivals.{lighter_later}
 
@@ -116,3 +116,22 @@ one_change items others x r place some differs =
         | inr now ↦ inr (inr now)
       ]
     ]
+
+-- ---- another order
+
+-- what is picked of the others arrives no later than what is picked of the items among them
+no_later : (items others : List WeightedItem) (x r : ℕ) → 0 < length items → 0 < length others → AllAreAmong others items
+    → arrival x r (at others (straw2_place others x r)) ≤ arrival x r (at items (straw2_place items x r))
+no_later items others x r some more among =
+    let was = first_is items x r some in
+    let now = first_is others x r more in
+    let (i, low, is) = among (straw2_place items x r) was.within in
+    let same : arrival x r (at others i) ≡ arrival x r (at items (straw2_place items x r)) = ap (arrival x r) is in
+    let le = now.soonest i low in omega (arith, le, same)
+
+pub at_once : (items others : List WeightedItem) (x r : ℕ) → 0 < length items → AllAreAmong items others → AllAreAmong others items
+    → arrival x r (at others (straw2_place others x r)) ≡ arrival x r (at items (straw2_place items x r))
+at_once items others x r some out back =
+    let (i, low, is) = back 0 some in
+    let more : 0 < length others = omega (arith, low) in
+    omega (arith, no_later items others x r some more back, no_later others items x r more some out)

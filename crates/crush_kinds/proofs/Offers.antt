@@ -2,13 +2,13 @@
 use Rattle.std.proofs.Common.{◌≡◌, ℕ, ◌+◌, ◌%◌, ◌<◌, ◌≤◌, ◌^◌, min, List, length, refl, sym, ◌∙◌, arith, ◌⊎◌, inl, inr}
 use Rattle.crush_hash.specs.Hash.{hash3}
 use Rattle.crush_ln.specs.Log.{delay}
-use Rattle.crush_ln.proofs.Rising.{no_sooner}
+use Rattle.crush_ln.proofs.Rising.{no_sooner, delay_small}
 use Rattle.crush_kinds.specs.Bucket.{WeightedItem, word, at}
 use Rattle.crush_kinds.specs.Kinds.{never, time_of, arrival, straw2_place}
 use Rattle.crush_kinds.specs.Straw2Laws.{IsFirst}
 use Rattle.crush_kinds.specs.Private.Soonest.{quotient, time, HasLimits, IsOffered, IsBest}
 use Rattle.crush_kinds.specs.declared.soonest.Soonest.{Soonest}
-use Rattle.crush_kinds.proofs.Arrivals.{delay_small, time_small, time_le}
+use Rattle.crush_kinds.proofs.Arrivals.{time_small, time_le}
 use Rattle.crush_kinds.proofs.First.{is_place}
 use Rattle.crush_kinds.proofs.Quotients.{time_is}
 

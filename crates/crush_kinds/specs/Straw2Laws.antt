@@ -1,5 +1,5 @@
 -- What the laws of straw2 buckets say of the definitions.
-use Rattle.std.specs.Prelude.{◌≡◌, ◌≢◌, ℕ, ◌<◌, ◌≤◌, List, length}
+use Rattle.std.specs.Prelude.{◌≡◌, ◌≢◌, ℕ, ◌<◌, ◌≤◌, List, length, SomeIndex}
 use Rattle.crush_types.specs.declared.Kind.TheVariants.{Straw2}
 use Rattle.crush_kinds.specs.Bucket.{WeightedItem, BucketView, at, item_at, weight_at}
 use Rattle.crush_kinds.specs.Kinds.{arrival}
@@ -29,3 +29,7 @@ pub record IsLowered (items others : List WeightedItem) (place : ℕ) : Type 0 w
 pub record DiffersAt (items others : List WeightedItem) (place : ℕ) : Type 0 where
   pub same_items : HasSameItems items others
   pub rest : (j : ℕ) → j ≢ place → weight_at others j ≡ weight_at items j
+
+-- each of the others is one of the items
+abbrev pub AllAreAmong : List WeightedItem → List WeightedItem → Type 0
+AllAreAmong items others = (j : ℕ) → j < length others → SomeIndex items (λ i. at items i ≡ at others j)

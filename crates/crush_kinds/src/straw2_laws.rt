@@ -1,10 +1,10 @@
 //! Laws of straw2 buckets: each contract holds of the definitions alone.
 
 ghost use Rattle.std.specs.Prelude.{◌≡◌, ◌<◌, ◌≤◌, ◌⊎◌, ◌++◌, ◌∷◌, ℕ, List, length};
-ghost use Rattle.crush_kinds.specs.Bucket.{WeightedItem, BucketView, item_at, weight_at};
-ghost use Rattle.crush_kinds.specs.Kinds.{straw2_place, straw2_pick};
+ghost use Rattle.crush_kinds.specs.Bucket.{WeightedItem, BucketView, at, item_at, weight_at};
+ghost use Rattle.crush_kinds.specs.Kinds.{arrival, straw2_place, straw2_pick};
 ghost use Rattle.crush_kinds.specs.Pick.{pick};
-ghost use Rattle.crush_kinds.specs.Straw2Laws.{IsStraw2, IsFirst, HasSameItems, IsLowered, DiffersAt};
+ghost use Rattle.crush_kinds.specs.Straw2Laws.{IsStraw2, IsFirst, HasSameItems, IsLowered, DiffersAt, AllAreAmong};
 
 /// A straw2 bucket picks the item at the place that its items give: its id counts for nothing.
 pub fn a_straw2_bucket_picks_by_its_items()
@@ -44,4 +44,10 @@ pub fn a_change_of_one_weight_moves_a_pick_only_from_or_to_its_item()
 /// bucket without it picks. So picks move only to the item, or only away from it.
 pub fn a_pick_with_an_item_more_is_that_item_or_the_pick_without_it()
     ensures { (front back : List WeightedItem) (item : WeightedItem) (x r : ℕ) → 0 < length (front ++ back) → (straw2_pick (front ++ item ∷ back) x r ≡ item.0) ⊎ (straw2_pick (front ++ item ∷ back) x r ≡ straw2_pick (front ++ back) x r) }
+{}
+
+/// Whatever the order in which the same items stand, the item that is picked arrives at the same
+/// time: so the order matters only between items that arrive at once.
+pub fn another_order_changes_a_pick_only_between_items_that_arrive_at_once()
+    ensures { (items others : List WeightedItem) (x r : ℕ) → 0 < length items → AllAreAmong items others → AllAreAmong others items → arrival x r (at others (straw2_place others x r)) ≡ arrival x r (at items (straw2_place items x r)) }
 {}
