@@ -42,7 +42,8 @@ abbrev pub word : List ℕ → Word
 word text = record { line = 0; text = text; straw2 = false }
 
 -- straw or straw2 as the algorithm of a bucket: with list and a brace after it, the front is a text
--- that ends with a bucket without items, so that list is the algorithm there
+-- that ends with a bucket without items, so that list is the algorithm there. In a text that asks
+-- for straw2 that word is of the grammar there, so that straw alone is wrong
 abbrev pub IsStraw : List Word → Word → Type 0
 IsStraw front w =
     ((is (codes "straw") w || is (codes "straw2") w) ≡ true)
