@@ -60,7 +60,7 @@ help:
 ## make clean     removes what was built, the finished proofs too
 ##
 ## make test      every proof from nothing, tests, the program from end to end, and the wrong bodies
-##                whose record a change made stale
+##                whose record a change made stale, as many as 50 minutes last for
 ## make test-all  the same with every wrong body
 ## make wrong     tries the wrong bodies whose record is stale, or of CRATES="NAME..", and records
 ##                what refused them; CRATES=--plan says how long that takes

@@ -1,1 +1,2 @@
 pub mod DeviceValues
+pub mod Names

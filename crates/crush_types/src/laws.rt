@@ -9,6 +9,5 @@ use crate::word::Kind;
 /// The name of each kind but straw2 names that kind, and no other word does; `straw2` names none.
 pub fn names_are_of_one_kind()
     ensures named { (k : AnyKind) → k ≢ Kind.Straw2 → kind_named (kind_name k) ≡ Some k }
-    ensures only { (name : List ℕ) (k : AnyKind) → kind_named name ≡ Some k → name ≡ kind_name k }
-    ensures not_straw2 { (name : List ℕ) → kind_named name ≢ Some Kind.Straw2 }
+    ensures only { (name : List ℕ) (k : AnyKind) → kind_named name ≡ Some k → (name ≡ kind_name k) × (k ≢ Kind.Straw2) }
 {}

@@ -5,6 +5,7 @@
 
 mod cursor;
 mod lex;
+mod mark;
 mod name;
 mod number;
 mod word;

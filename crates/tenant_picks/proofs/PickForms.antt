@@ -14,11 +14,11 @@ use Rattle.crush_types.specs.Weights.{has_equal_weights}
 use Rattle.crush_map.specs.declared.limits.TheConstants.{ITEM_LIMIT, NUMBER_LIMIT, TOTAL_WEIGHT_LIMIT}
 use Rattle.crush_types.specs.declared.ItemId.{ItemId}
 use Rattle.crush_types.specs.declared.Kind.{Kind}
-use Rattle.crush_types.specs.declared.Kind.TheVariants.{Uniform, List as ListKind, Tree}
+use Rattle.crush_types.specs.declared.Kind.TheVariants.{Uniform, List as ListKind, Tree, Straw2}
 use Rattle.tenant_messages.proofs.Finding.{Finds, finds_as, finds_both, finds_integer, finds_list, finds_natural, finds_object, finds_tested, finds_text, finds_three, finds_under, is_there, Decides-leb}
 use Rattle.tenant_picks.proofs.Deciding.{Decides-distinct, Decides-none, Differ}
 use Rattle.tenant_picks.specs.declared.limits.TheConstants.{ATTEMPT_LIMIT}
-use Rattle.tenant_picks.specs.Picks.{weighed, entry_of, is_of_item, are_distinct, kind_of, is_valid, bucket_of, pick_of, IsItem, IsBucket, IsPickBody}
+use Rattle.tenant_picks.specs.Picks.{weighed, entry_of, is_of_item, are_distinct, kind_of, is_valid, bucket_of, pick_of, IsItem, IsKind, IsBucket, IsPickBody}
 use Rattle.tenant_messages.specs.Forms.{IsText}
 
 -- ---- an item
@@ -31,27 +31,15 @@ finds_entry = finds_as (λ d e is. record { keys = is.0; item = is.1.0; weight =
 
 -- ---- a kind
 
-kind-named : (name : List ℕ) (k : Kind) (u l t : Bool) → bytes_eq name (codes "uniform") ≡ u → bytes_eq name (codes "list") ≡ l → bytes_eq name (codes "tree") ≡ t
-    → (if u then Some Uniform else (if l then Some ListKind else (if t then Some Tree else None))) ≡ Some k → name ≡ kind_name k
-kind-named name k true l t is_u is_l is_t h = let same : Uniform ≡ k = cc in rw (← same) ((bytes_eq-Decides name (codes "uniform")).0 is_u)
-kind-named name k false true t is_u is_l is_t h = let same : ListKind ≡ k = cc in rw (← same) ((bytes_eq-Decides name (codes "list")).0 is_l)
-kind-named name k false false true is_u is_l is_t h = let same : Tree ≡ k = cc in rw (← same) ((bytes_eq-Decides name (codes "tree")).0 is_t)
-kind-named name k false false false is_u is_l is_t h = cc
-
-named : (k : Kind) → kind_named (kind_name k) ≡ Some k
-named Uniform = refl
-named ListKind = refl
-named Tree = refl
-
-kind-says : (d : Data) (k : Kind) (o : Option (List ℕ)) → as_str d ≡ o → option_and_then kind_named o ≡ Some k → IsText d (kind_name k)
+kind-says : (d : Data) (k : Kind) (o : Option (List ℕ)) → as_str d ≡ o → option_and_then kind_named o ≡ Some k → IsKind d k
 kind-says d k None is h = cc
 kind-says d k (Some name) is h =
-    let same : name ≡ kind_name k = kind-named name k _ _ _ refl refl refl h in finds_text.says d (kind_name k) (is ∙ ap Some same)
+    let named = name_of_kind name k h in (finds_text.says d (kind_name k) (is ∙ ap Some named.0), named.1)
 
-finds_kind : Finds kind_of (λ v k. IsText v (kind_name k))
+finds_kind : Finds kind_of IsKind
 finds_kind = record {
   says = λ d k h. kind-says d k (as_str d) refl h;
-  found = λ d k is. rw (finds_text.found d (kind_name k) is) (named k);
+  found = λ d k is. rw (finds_text.found d (kind_name k) is.0) (kind_of_name k is.1);
 }
 
 -- ---- valid buckets
@@ -81,6 +69,7 @@ Decides-if_uniform : (k : Kind) (b : Bool) (P : Type 0) → Decides b P → Deci
 Decides-if_uniform Uniform b P h = (λ yes same. h.0 yes, λ holds. h.1 (holds refl))
 Decides-if_uniform ListKind b P h = (λ yes same. cc, λ holds. refl)
 Decides-if_uniform Tree b P h = (λ yes same. cc, λ holds. refl)
+Decides-if_uniform Straw2 b P h = (λ yes same. cc, λ holds. refl)
 
 record IsValid (b : BucketView) : Type 0 where
   some : 1 ≤ length b.items

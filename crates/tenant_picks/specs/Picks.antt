@@ -11,7 +11,7 @@ use Rattle.crush_types.specs.Weights.{has_equal_weights}
 use Rattle.crush_types.specs.declared.ItemId.{ItemId}
 use Rattle.crush_map.specs.declared.limits.TheConstants.{ITEM_LIMIT, NUMBER_LIMIT, TOTAL_WEIGHT_LIMIT}
 use Rattle.crush_types.specs.declared.Kind.{Kind}
-use Rattle.crush_types.specs.declared.Kind.TheVariants.{Uniform}
+use Rattle.crush_types.specs.declared.Kind.TheVariants.{Straw2, Uniform}
 use Rattle.tenant_messages.specs.Forms.{IsNatural, IsInteger, IsText, IsListOf, HasExactly, IsUnder}
 use Rattle.tenant_messages.specs.Json.{value_of, natural_of, integer_of, both, all_three, list_of, has_keys, under}
 use Rattle.tenant_messages.specs.Reply.{Answer, success, members_of}
@@ -26,14 +26,18 @@ pub record IsItem (d : Data) (e : WeightedItem) : Type 0 where
   pub item : IsUnder (codes "item") (IsInteger (negsuc NUMBER_LIMIT) (pos NUMBER_LIMIT)) d e.0.0
   pub weight : IsUnder (codes "weight") (IsNatural 4294967295) d e.1.0
 
--- {"id": -1 - NUMBER_LIMIT..-1, "items": [ITEM, ..], "kind": "uniform", "list" or "tree"}: 1 to
--- ITEM_LIMIT distinct items other than the bucket, whose weights have a sum of at most
--- TOTAL_WEIGHT_LIMIT, and are equal in a uniform bucket
+-- "uniform", "list" or "tree"; straw2 is of texts that ask for it
+abbrev pub IsKind : Data → Kind → Type 0
+IsKind d kind = IsText d (kind_name kind) × (kind ≢ Straw2)
+
+-- {"id": -1 - NUMBER_LIMIT..-1, "items": [ITEM, ..], "kind": KIND}: 1 to ITEM_LIMIT distinct items
+-- other than the bucket, whose weights have a sum of at most TOTAL_WEIGHT_LIMIT, and are equal in a
+-- uniform bucket
 pub record IsBucket (d : Data) (b : BucketView) : Type 0 where
   pub keys : HasExactly (codes "id" ∷ codes "items" ∷ codes "kind" ∷ []) d
   pub id : IsUnder (codes "id") (IsInteger (negsuc NUMBER_LIMIT) (negsuc 0)) d b.id.0
   pub items : IsUnder (codes "items") (IsListOf IsItem) d b.items
-  pub kind : IsUnder (codes "kind") (λ v k. IsText v (kind_name k)) d b.kind
+  pub kind : IsUnder (codes "kind") IsKind d b.kind
   pub some : 1 ≤ length b.items
   pub few : length b.items ≤ ITEM_LIMIT
   pub distinct : AllPairs (λ e f. e.0 ≢ f.0) b.items
