@@ -7,9 +7,11 @@
 
 mod any;
 mod descent;
+mod eight;
 pub mod laws;
 mod list;
 pub mod list_laws;
+mod of_kind;
 mod picker;
 mod soonest;
 mod straw2;
@@ -22,11 +24,7 @@ mod walks;
 
 pub use any::AnyBucket;
 pub use crush_permutation::Perm;
-pub use list::ListBucket;
+pub use eight::{is_side_by_side, pick_side_by_side};
+pub use of_kind::{ListBucket, Straw2Bucket, TreeBucket, UniformBucket};
 pub use picker::Picker;
-pub use straw2::Straw2Bucket;
 pub use sums::can_be_asked;
-pub use tree::TreeBucket;
-pub use uniform::UniformBucket;
-pub use uniform_lanes::pick_uniforms;
-pub use walks::pick_trees;

@@ -1,102 +1,15 @@
-//! Straw2 buckets.
+//! The picks of straw2 buckets.
 
-ghost use Rattle.std.specs.Prelude.{◌≡◌, ℕ, ◌<◌, ◌≤◌, ◌+◌, ◌%◌, ◌^◌, IfOk, length, slice_index};
+ghost use Rattle.std.specs.Prelude.{◌≡◌, ℕ, ◌<◌, ◌≤◌, ◌+◌, ◌%◌, ◌^◌, length, slice_index};
 ghost use Rattle.crush_hash.specs.Hash.{hash3};
-ghost use Rattle.crush_kinds.specs.Bucket.{IsItemOf, item_at, word, total_weight};
+ghost use Rattle.crush_kinds.specs.Bucket.{IsItemOf, item_at, word};
 ghost use Rattle.crush_kinds.specs.Kinds.{straw2_place, straw2_pick};
-ghost use Rattle.crush_kinds.specs.Pick.{pick};
 ghost use Rattle.crush_kinds.specs.Private.Soonest.{IsBest};
 
 use crate::list::{word_up_to, words};
-use crate::picker::Picker;
 use crate::soonest::{Soonest, nothing, offer};
 use crush_hash::{hash3_four, hash3_items};
-use crush_permutation::Perm;
-use crush_types::{ItemId, Kind, Weight};
-use std::alloc::{AllocError, Global};
-use std::marker::Model;
-
-/// A bucket that picks the item that arrives first (Ceph's straw2). Contracts see the bucket.
-#[derive(Drop)]
-pub struct Straw2Bucket {
-    id: ItemId,
-    items: Vec<(ItemId, Weight)>,
-}
-
-impl Model for Straw2Bucket {
-    ghost use Rattle.crush_kinds.specs.Bucket.{BucketView, CanBeAsked};
-    ghost use Rattle.crush_types.specs.declared.Kind.TheVariants.{Straw2};
-
-    ghost Value = { BucketView };
-
-    ghost view = { λ a. record { id = a.id; kind = Straw2; items = a.items.items } };
-
-    ghost invariant = { λ a. CanBeAsked a.items.items };
-}
-
-impl Straw2Bucket {
-    /// Makes the straw2 bucket of `items`, in order of place.
-    ///
-    /// `Err(AllocError)`: an allocation failed; nothing is changed.
-    pub fn build(alloc: Global, id: ItemId, items: &[(ItemId, Weight)]) -> Result<Self, AllocError>
-        requires some { 0 < length items.now }
-        requires few { length items.now < 2 ^ 16 }
-        requires light { total_weight items.now < 2 ^ 32 }
-        ensures { IfOk result (λ b. b ≡ record { id = id; kind = Kind.Straw2; items = items.now }) }
-    {
-        let items = Vec::from_slice(alloc, items)?;
-        Ok(Straw2Bucket { id, items })
-    }
-
-    /// Returns the bucket's id.
-    pub fn id(&self) -> ItemId
-        ensures { result ≡ self.now.id }
-    {
-        self.id
-    }
-
-    /// Returns the bucket's kind.
-    pub fn kind(&self) -> Kind
-        ensures { result ≡ self.now.kind }
-    {
-        let _id = self.id;
-        Kind::Straw2
-    }
-
-    /// Returns how many items the bucket has.
-    pub fn size(&self) -> usize
-        ensures value { result ≡ length self.now.items }
-        ensures some { 0 < result }
-        ensures few { result < 2 ^ 16 }
-    {
-        self.items.len()
-    }
-
-    /// Returns the items with their weights, in order of place.
-    pub(crate) fn items(&self) -> &[(ItemId, Weight)]
-        ensures { result.now ≡ self.now.items }
-    {
-        self.items.as_slice()
-    }
-
-    /// Picks the item for the input `x` and the attempt `r`.
-    #[tactic(auto, unfolding(crate::specs::Pick::pick))]
-    pub(crate) fn item_for(&self, x: u32, r: u32) -> ItemId
-        ensures picked { result ≡ pick self.now x r }
-        ensures item { IsItemOf self.now.items result }
-    {
-        straw2_item(&self.items, x, r)
-    }
-}
-
-impl Picker for Straw2Bucket {
-    ghost bucket = { λ b. b };
-
-    fn pick(&self, _perm: &mut Perm, x: u32, r: u32) -> ItemId {
-        let _id = self.id;
-        self.item_for(x, r)
-    }
-}
+use crush_types::{ItemId, Weight};
 
 /// Picks the item of `items` that arrives first for the input `x` and the attempt `r`, as a straw2
 /// bucket of them does. Allocates nothing.
