@@ -3,7 +3,7 @@
 
 export const FAULTS = {
     X1: "a word that can't stand there, a byte that no word has, or a text that ends too early. Look at this line, and at the word before it.",
-    X2: "alg straw or alg straw2. Placements of such buckets aren't computed.",
+    X2: "alg straw, or alg straw2 in a text whose first line isn't # crushcalc: straw2. Straw buckets aren't computed; a text asks for straw2 buckets by that line.",
     X3: "a class in a take step. The trees that Ceph derives for each class aren't computed; in a copy, take the bucket itself, or a bucket that has only the devices of that class.",
     X4: "choose_args, the weight sets of a balancer. They aren't computed; leave them out of a copy.",
     X5: "a pos that isn't below the number of the bucket's items, or that an earlier item of the bucket has.",
@@ -15,7 +15,7 @@ export const FAULTS = {
     M4: "a bucket of a type that isn't declared, or is misspelt; at the end of the text: there is no type 0. An empty text has it.",
     M5: "an item that isn't declared before its bucket: it is misspelt, or stands further down. The line is that of the bucket, whichever item it is; buckets come after their items, the root last.",
     M6: "an item that stands twice in its bucket, as osd.0 where a tree bucket has holes.",
-    M7: "the weights of a bucket add up to 65536 or more.",
+    M7: "the weights of a bucket add up to 65536 or more, or an item of a straw2 bucket weighs 32768 or more.",
     M8: "the weights of a uniform bucket differ.",
     M9: "a bucket of type 0, which is that of devices.",
     M10: "a step takes what isn't declared before its rule: it is misspelt, or stands further down. The line is that of the rule.",
@@ -31,8 +31,8 @@ export const NOT_COMPUTED = new Set(["X2", "X3", "X4", "M13"]);
 
 // What a map with straw or straw2 buckets can still be used for.
 export const STRAW = {
-    why: "Nothing is wrong with such a map: Ceph computes these buckets, and most clusters have them. crushcalc can't, so it has no answer on where the objects of its cluster lie.",
-    copy: "You can try a copy of the text in which the buckets are lists. This command writes it:",
+    why: "Nothing is wrong with such a map: Ceph computes these buckets, and most clusters have straw2. crushcalc computes straw2 buckets in a text whose first line is # crushcalc: straw2; straw buckets it can't compute.",
+    copy: "Of straw buckets you can try a copy of the text in which they are lists. This command writes it:",
     command: "sed -E 's/^([[:space:]]*alg[[:space:]]+)straw2?/\\1list/' map.txt >lists.txt",
     good: "Good for: this page's steps, whether the rules find enough hosts or racks, and how evenly a pool spreads, since each device still gets its share by weight.",
     bad: "Not good for: which groups lie where or move, and how much moves. Nearly every object lies elsewhere in the copy than in the cluster, and a change of weights or of hosts moves other amounts in lists.",

@@ -193,7 +193,7 @@ function start(said) {
     const links = tenants().length > 0 && [el("p", {}, "Open here before:"), el("ul", { class: "tenants" }, tenants().map((it) => el("li", {}, el("a", { href: `#/${it}/map` }, it))))];
     return el("section", { class: "start" }, el("h1", { tabindex: "-1" }, "Plan a cluster on paper"),
         el("p", { class: "lead" }, "May this host be drained? Which devices are full, what does a new host move? Computed from what the cluster itself writes of its CRUSH map, without touching the cluster."),
-        el("div", { class: "note" }, el("p", {}, "Look first for ", el("code", {}, "alg straw2"), " in your map's text: most clusters have it, and crushcalc can't compute such buckets."),
+        el("div", { class: "note" }, el("p", {}, "Look first for ", el("code", {}, "alg straw2"), " in your map's text: most clusters have it, and crushcalc can't compute such buckets unless the text's first line is ", el("code", {}, "# crushcalc: straw2"), "."),
             el("details", {}, el("summary", {}, "What can be done with such a map"), aboutStraw())),
         outcome,
         el("div", { class: "card", role: "group", "aria-labelledby": "new" }, el("h2", { id: "new" }, "Begin with the map of a cluster"),

@@ -23,7 +23,7 @@ import contracting  # noqa: E402
 PAGE = "docs/DEFINITIONS.md"
 
 # functions of Ceph that no comment names, the crate server_tests, and words of commands
-ELSEWHERE = {"_remove_nonexistent_osds", "bucket_list_choose", "bucket_tree_choose", "find_rule"}
+ELSEWHERE = {"_remove_nonexistent_osds", "bucket_list_choose", "bucket_straw2_choose", "bucket_tree_choose"}
 ELSEWHERE |= {"server_tests", "tools", "contracts", "CRATE", "plant", "_of_the_form"}
 
 # ---- a source, of a module whose names LIB shows in part
@@ -105,7 +105,7 @@ CITED = {("one", "Held", "Holds"), ("one", "Held", "IsOpen"), ("two", "Rows", "R
 
 # ---- the calls of some crates
 KNOWN = {
-    "crush_hash": "hash1 hash2 hash3 hash4 hash5 name_hash hash3_lanes hash3_each hash4_each hash4_four hash4_lanes",
+    "crush_hash": "hash1 hash2 hash3 hash4 hash5 name_hash hash3_lanes hash3_each hash3_four hash3_items hash4_each hash4_four hash4_lanes",
     "crush_permutation": "Perm::build Perm::member Perm::kept Perms::build Perms::member eight_members permutation_has_each_place a_perm_keeps_few_places",
     "crush_writing": "write_map",
     "tenant_picks": "read_pick answer AskedBucket::new AskedBucket::pick picks_are_of_the_form",

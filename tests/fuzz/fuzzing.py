@@ -7,7 +7,7 @@ import re
 from model import maps, messages
 from program import exception_cases, hostile_cases
 from model.messages import body
-from program import map_cases, pool_cases, report_cases
+from program import map_cases, pool_cases, report_cases, straw2_cases
 
 HERE = pathlib.Path(__file__).resolve().parent
 LONGEST = 8_000
@@ -26,7 +26,8 @@ def texts():
     within = (it.encode() for _, it, _, _, _ in hostile_cases.TEXT_LIMITS)
     stored = ((HERE.parent / "program" / "cases" / "jewel.map").read_bytes(), (HERE.parent.parent / "examples" / "three_hosts.txt").read_bytes(), (HERE.parent.parent / "examples" / "cluster.txt").read_bytes())
     made = (maps.tiny(), maps.hosts(), maps.duo(), maps.three(), maps.one_host())
-    return [it for it in (*stored, *(it.encode() for it in made), *within) if 0 < len(it) <= LONGEST]
+    straw2 = (*(it for _, it, _ in straw2_cases.short_texts()), maps.marked(maps.never_picked("straw2")), maps.marked(CLUSTER.replace("alg list", "alg straw2")))
+    return [it for it in (*stored, *(it.encode() for it in (*made, *straw2)), *within) if 0 < len(it) <= LONGEST]
 
 
 def picks():
@@ -47,7 +48,7 @@ def sessions():
     """The scripts of the cases and of the examples, as lists of lines of the tenant a; long lines
     and long scripts are left out."""
     found = [path.read_bytes().splitlines() for path in sorted((HERE.parent.parent / "examples").glob("*.script"))]
-    found += [[line for line, _ in pairs] for module in (map_cases, pool_cases, report_cases, exception_cases) for _, pairs in module.cases()]
+    found += [[line for line, _ in pairs] for module in (map_cases, pool_cases, report_cases, exception_cases, straw2_cases) for _, pairs in module.cases()]
     found += [[b"PUT /t/a", *(b"POST /t/a/pick " + sent for _, sent, _ in hostile_cases.BODIES)], exceptions(), [line for line, _ in hostile_cases.exceptions()]]
     return [lines for lines in ([it for it in lines if 0 < len(it) <= LONGEST] for lines in found) if 0 < len(lines) <= 120]
 

@@ -3,6 +3,8 @@
 The tests take the replies that they expect from here. `check` holds this file to known values.
 Words are unsigned, of 32 bits, and wrap; a negative id enters a hash as its two's complement.
 """
+import pathlib
+
 WORD = 0xFFFFFFFF
 SEED = 1315423911
 X, Y = 231232, 1232
@@ -107,7 +109,44 @@ def tree_pick(bucket, entries, x, r):
     return entries[min(node // 2, len(entries) - 1)][0]
 
 
-PICKS = {"uniform": uniform_pick, "list": list_pick, "tree": tree_pick}
+def tables():
+    """Those of straw2_tables.txt: reciprocals, logarithms, and the rests' logarithms."""
+    lines = (pathlib.Path(__file__).resolve().parent / "straw2_tables.txt").read_text().splitlines()
+    rows = [[int(number, 16) for number in it.split()] for it in lines if not it.startswith("#")]
+    pairs = [it for it in rows if len(it) == 2]
+    return [it[0] for it in pairs], [it[1] for it in pairs], [it[0] for it in rows if len(it) == 1]
+
+
+RECIPROCALS, LOGS, REST_LOGS = tables()
+
+
+def log(draw):
+    """About 2^44 * log2(draw + 1) of a draw of 16 bits, as Ceph's crush_ln has it."""
+    x, exponent = draw + 1, 15
+    while x < 2**15:
+        x, exponent = 2 * x, exponent - 1
+    place = x // 256 - 128
+    rest = x * RECIPROCALS[place] // 2**48 % 256
+    return exponent * 2**44 + (LOGS[place] + REST_LOGS[rest]) // 16
+
+
+def draw_of(item, x, r):
+    return hash3(x, item, r) & 0xFFFF
+
+
+def lack(item, weight, x, r):
+    """By how much the straw of an item that weighs something is too short."""
+    return (2**48 - log(draw_of(item, x, r))) // weight
+
+
+def straw2_pick(bucket, entries, x, r):
+    """The first item whose straw lacks least, of those that weigh something; else the first
+    item. The bucket's id isn't in it."""
+    lacks = [(lack(item, weight, x, r), place) for place, (item, weight) in enumerate(entries) if weight]
+    return entries[min(lacks)[1] if lacks else 0][0]
+
+
+PICKS = {"uniform": uniform_pick, "list": list_pick, "tree": tree_pick, "straw2": straw2_pick}
 
 
 def check():
@@ -125,4 +164,9 @@ def check():
         and list_pick(-1, [(0, 65536), (1, 23 * 65536)], 0, 0) == 1
         and tree_pick(-1, [(10, 0), (11, 0), (12, 0)], 0, 0) == 12
         and tree_pick(-1, [(10, 0), (11, 65536), (12, 0)], 0, 0) == 11
+        and (len(RECIPROCALS), len(LOGS), len(REST_LOGS)) == (129, 129, 256)
+        and [log(it) for it in (0, 32767, 65534, 65535)] == [0, 15 * 2**44, 281474932780304, 2**48 - 2**28]
+        and [straw2_pick(-1, even(0, 1, 2), x, 0) for x in range(16)] == [0, 0, 1, 0, 1, 0, 2, 1, 2, 2, 0, 0, 0, 0, 1, 1]
+        and straw2_pick(-1, even(55160, 64590), 1, 0) == 64590
+        and straw2_pick(-1, [(7, 0), (6, 0)], 0, 0) == 7
     )

@@ -9,6 +9,7 @@ import re
 
 LENGTH = 4_194_304
 NAME = re.compile(rb"[A-Za-z0-9._-]+")
+MARK = b"# crushcalc: straw2"
 TUNABLES = {b"choose_local_tries": (2, 0, None), b"choose_local_fallback_tries": (5, 0, None), b"choose_total_tries": (19, 0, 999), b"chooseleaf_descend_once": (0, 0, 1),
             b"chooseleaf_vary_r": (0, 0, 8), b"chooseleaf_stable": (0, 0, 1), b"straw_calc_version": (0, 0, None), b"allowed_bucket_algs": (0, 0, None)}
 LOCAL = (b"choose_local_tries", b"choose_local_fallback_tries")
@@ -59,12 +60,17 @@ def weight_text(weight):
     return b"%d.%05d" % divmod(hundred_thousandths, 100_000)
 
 
+def asks_for_straw2(text):
+    """Whether the first line, less one CR at its end, is the mark."""
+    return text.split(b"\n", 1)[0].removesuffix(b"\r") == MARK
+
+
 class Reader:
     """Gives the words in order. What asks for a word that isn't there is refused at the text's
     end."""
 
     def __init__(self, text):
-        self.words, self.place = words_of(text), 0
+        self.words, self.place, self.straw2 = words_of(text), 0, asks_for_straw2(text)
         self.last_line = self.words[-1][1] if self.words else 1
 
     def peek(self):
@@ -187,9 +193,9 @@ def bucket(m, reader, kind):
         else:
             reader.refuse()
     reader.one_of(b"alg")
-    if reader.peek() in (b"straw", b"straw2"):
+    if reader.peek() == b"straw" or (reader.peek() == b"straw2" and not reader.straw2):
         reader.refuse("X2")
-    alg = reader.one_of(b"uniform", b"list", b"tree")
+    alg = reader.one_of(b"uniform", b"list", b"tree", b"straw2")
     while reader.has(b"hash"):
         reader.one_of(b"0", b"rjenkins1")
     items = bucket_items(reader)
@@ -205,7 +211,8 @@ def bucket(m, reader, kind):
         seen.add(it.name)
         placed.append((it.name, m.weights[it.name] if it.weight is None else it.weight))
     total = sum(weight for _, weight in placed)
-    yield first(((alg == b"uniform" and len({weight for _, weight in placed}) > 1, "M8"), (total >= 2**32, "M7")))
+    is_heavy = alg == b"straw2" and any(weight >= 2**31 for _, weight in placed)
+    yield first(((alg == b"uniform" and len({weight for _, weight in placed}) > 1, "M8"), (total >= 2**32 or is_heavy, "M7")))
     m.buckets.append((plain, kind, name, alg, placed))
     m.ids[name], m.weights[name] = plain, total
 
@@ -294,7 +301,8 @@ def write(m):
     def shown(it):
         return it if isinstance(it, bytes) else b"%d" % it
 
-    lines = [b"# begin crush map"]
+    lines = [MARK] if any(alg == b"straw2" for _, _, _, alg, _ in m.buckets) else []
+    lines.append(b"# begin crush map")
     for name, (legacy, _, _) in list(TUNABLES.items())[:6]:
         lines.append(b"tunable %s %d" % (name, m.tunables.get(name, legacy)))
     lines += [b"", b"# devices"] + [b"device %d %s" % it for it in sorted(m.devices.items())]

@@ -161,3 +161,26 @@ def taking(*devices):
     taken = "\n".join(f" step take osd.{it}\n step emit" for it in devices)
     text = with_line(with_line(with_line(tiny(), 22, None), 21, None), 20, taken)
     return with_line(text, 7, "\n".join(f"device {it} osd.{it}" for it in range(4)))
+
+
+MARK = "# crushcalc: straw2"
+
+
+def marked(text):
+    """A text behind the line by which it asks for straw2."""
+    return f"{MARK}\n{text}"
+
+
+def straw2_of(entries):
+    """A marked text of a device for each entry, all in one straw2 bucket with these weights' texts, and
+    the rule of the map of one device."""
+    text = with_line(tiny(), 15, "\n".join(f" item osd.{device} weight {said}" for device, said in entries))
+    text = with_line(text, 13, " alg straw2")
+    return marked(with_line(text, 7, "\n".join(f"device {device} osd.{device}" for device, _ in entries)))
+
+
+def straw2_under(entries):
+    """A marked text of hosts with one device each in a straw2 root with these weights' texts."""
+    text = "\n".join([*hosts().split("\n")[:23], "root default {", " id -1", " alg straw2", " hash 0"])
+    text += "".join(f"\n item h{host} weight {said}" for host, said in entries) + "\n}\n"
+    return marked(text + hosts()[hosts().index("rule all") :].replace("firstn 2", "firstn 0"))

@@ -79,6 +79,9 @@ TEXT_LIMITS = [
     ("items of a bucket", items_of(4096), "ok devices 4096 buckets 2 rules 0", items_of(4097), "line 4102 code M1"),
     ("a bucket's weight", *(part for more, answer in (("0", "ok devices 2 buckets 1 rules 0"), ("0.00002", "line 6 code M7"))
                             for part in (TYPES + devices(2) + f"host h {{ id -1 alg list item osd.0 weight 65535.99999 item osd.1 weight {more} }}", answer))),
+    ("a weight in a straw2 bucket", maps.straw2_of([(0, "32767.99999")]), OK, maps.straw2_of([(0, "32768")]), "line 12 code M7"),
+    ("a weight beside another in a straw2 bucket", maps.straw2_of([(0, "1.0"), (1, "32767.99999")]), "ok devices 2 buckets 1 rules 1", maps.straw2_of([(0, "1.0"), (1, "32768")]), "line 13 code M7"),
+    ("the line that asks for straw2", maps.straw2_of([(0, "1.0")]), OK, "#" + maps.straw2_of([(0, "1.0")]), "line 14 code X2"),
     ("rules", *(part for count, answer in ((64, "ok devices 0 buckets 0 rules 64"), (65, "line 68 code M1"))
                 for part in (TYPES + "".join(rule("step emit", it).replace("rule q", f"rule q{it}") for it in range(count)), answer))),
     ("steps", TYPES + rule("step emit " * 32), "ok devices 0 buckets 0 rules 1", TYPES + rule("step emit " * 33), "line 4 code M1"),

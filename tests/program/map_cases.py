@@ -2,7 +2,7 @@
 are small enough to be answered by hand."""
 import pathlib
 
-from model.maps import canonical_tiny, hosts, never_picked, tiny, with_line
+from model.maps import canonical_tiny, hosts, marked, never_picked, tiny, with_line
 from model.messages import BAD, EXISTS, LIMIT, METHOD, NO_PATH, NO_RULE, NO_TENANT, NO_VERSION, REUSED, START, TOO_LARGE, dropped, import_of, imported, made, of_b, post, refused, summary, test_of, tested, version_of
 
 HERE = pathlib.Path(__file__).resolve().parent
@@ -96,6 +96,7 @@ def rule_tests():
         (hosts(), [(dict(size=2, x=x), [0], [0]) for x in range(200)]),
         (never_picked("list"), [(dict(size=32, x=x), [0], [0]) for x in range(32)]),  # all tries would take minutes
         (never_picked("tree"), [(dict(size=32, x=x), [0], [0]) for x in range(32)]),
+        (marked(never_picked("straw2")), [(dict(size=32, x=x), [0], [0]) for x in range(32)]),
         (firstn_rack, [({}, [], [])]),
         (indep_rack, [({}, [None], [])]),
         (firstn_empty, [({}, [], [])]),

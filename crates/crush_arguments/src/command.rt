@@ -20,7 +20,7 @@ With a code X, L is the line of the wrong word. With a code M it is the first li
 device, type, bucket or rule that is wrong, perhaps further down, or the line of the last word where
 only the end shows the fault. The codes:
   X1   a word that can't stand there, or a text that ends too early
-  X2   alg straw or straw2: such buckets aren't computed
+  X2   alg straw, or alg straw2 where the text's first line isn't '# crushcalc: straw2'
   X3   a class in a take step
   X4   choose_args
   X5   a pos that isn't below the number of items, or that an earlier item has
@@ -33,7 +33,8 @@ only the end shows the fault. The codes:
   M4   the type of a bucket isn't declared; at the end: there is no type 0
   M5   an item that isn't declared earlier
   M6   an item twice in a bucket
-  M7   the weights of a bucket add up to 65536 or more
+  M7   the weights of a bucket add up to 65536 or more, or an item of a straw2 bucket weighs
+       32768 or more
   M8   the weights of a uniform bucket differ
   M9   a bucket of type 0
   M10  a take step names what isn't declared earlier

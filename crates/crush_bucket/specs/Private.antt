@@ -1,4 +1,3 @@
 -- What private clauses alone cite: how the code works. No public clause depends on it.
 pub mod Ahead
 pub mod Laid
-pub mod TableRows

@@ -10,11 +10,8 @@ use Rattle.crush_map.specs.declared.draft.Tunables.{Tunables}
 use Rattle.crush_map.specs.Map.{Map}
 use Rattle.crush_kinds.specs.Bucket.{BucketView, item_at}
 use Rattle.crush_kinds.specs.Pick.{pick}
-
 -- a bucket and the number of its type
-pub record TypedBucket : Type 0 where
-  pub of_type : ℕ
-  pub bucket : BucketView
+pub use Rattle.crush_bucket.specs.declared.typed.TypedBucket.{TypedBucket}
 
 -- the buckets in order of declaration, in which each has its place as its number; the ids of the
 -- devices; the tunables

@@ -5,7 +5,7 @@ ghost use Rattle.crush_bucket.specs.Private.Laid.{IsIndexOf};
 ghost use Rattle.crush_bucket.specs.Tables.{no_bucket};
 
 use crate::number::{BucketNo, index_place};
-use crate::table_row::TableRow;
+use crate::typed::TypedBucket;
 use std::alloc::{AllocError, Global};
 
 /// Makes a list that has at n the `BucketNo` of the bucket with the id -1 - n.
@@ -13,14 +13,14 @@ use std::alloc::{AllocError, Global};
 /// `Err(AllocError)`: an allocation failed; nothing is changed.
 pub(crate) fn index_of(
     alloc: Global,
-    rows: &[TableRow],
+    rows: &[TypedBucket],
 ) -> Result<Vec<Option<BucketNo>>, AllocError>
     ensures { IfOk result (λ index. IsIndexOf rows.now index.items) }
 {
     let mut index = empty_index(alloc, index_size(rows))?;
     for place in (0..rows.len()).rev() {
         let row = &rows[place];
-        if let Some(n) = index_place(row.id()) {
+        if let Some(n) = index_place(row.bucket.id()) {
             put(&mut index, n, place);
         }
     }
@@ -44,12 +44,12 @@ fn empty_index(alloc: Global, size: usize) -> Result<Vec<Option<BucketNo>>, Allo
 }
 
 /// Returns how long the index has to be: longer than the n of each bucket with an id -1 - n.
-fn index_size(rows: &[TableRow]) -> usize
+fn index_size(rows: &[TypedBucket]) -> usize
     ensures { (place n : ℕ) → place < length rows.now → (slice_index_or rows.now place no_bucket).bucket.id.0 ≡ negsuc n → n < result }
 {
     let mut size = 0;
     for row in rows {
-        if let Some(n) = index_place(row.id()) {
+        if let Some(n) = index_place(row.bucket.id()) {
             size = size.max(n + 1);
         }
     }

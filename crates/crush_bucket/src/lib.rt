@@ -8,12 +8,14 @@ mod index;
 pub mod laws;
 mod number;
 mod scratch;
-mod table_row;
 mod tables;
+mod typed;
 
 pub use crush_kinds::{
-    AnyBucket, ListBucket, Perm, Picker, TreeBucket, UniformBucket, can_be_asked, list_laws,
+    AnyBucket, ListBucket, Perm, Picker, Straw2Bucket, TreeBucket, UniformBucket, can_be_asked,
+    is_side_by_side, list_laws, straw2_laws,
 };
 pub use number::BucketNo;
 pub use scratch::{LANES, Scratch};
 pub use tables::Tables;
+pub use typed::TypedBucket;

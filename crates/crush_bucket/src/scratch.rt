@@ -86,7 +86,7 @@ impl<'a> Model for Scratch<'a> {
 }
 
 impl<'a> Scratch<'a> {
-    ghost use Rattle.std.specs.Prelude.{◌≡◌, IfOk, IfSome};
+    ghost use Rattle.std.specs.Prelude.{◌≡◌, ◌<◌, IfOk, IfSome, length};
     ghost use Rattle.crush_kinds.specs.Bucket.{IsItemOf};
     ghost use Rattle.crush_kinds.specs.Pick.{pick};
     ghost use Rattle.crush_bucket.specs.Tables.{scratch_of};
@@ -137,6 +137,7 @@ impl<'a> Scratch<'a> {
     /// Picks the item of `bucket`, which has the number `number`.
     #[inline]
     pub(crate) fn pick(&mut self, bucket: &AnyBucket, number: usize, x: u32, r: u32) -> ItemId
+        requires some { 0 < length bucket.now.items }
         requires fits { IsBucketOf self.old bucket.now }
         ensures picked { result ≡ pick bucket.now x r }
         ensures item { IsItemOf bucket.now.items result }

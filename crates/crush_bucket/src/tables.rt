@@ -10,8 +10,8 @@ ghost use Rattle.crush_bucket.specs.Tables.{tables_of, typed_bucket, bucket_numb
 use crate::index::index_of;
 use crate::number::{BucketNo, index_place};
 use crate::scratch::Scratch;
-use crate::table_row::{Content, TableRow};
-use crush_kinds::{AnyBucket, TreeBucket, UniformBucket, pick_trees, pick_uniforms};
+use crate::typed::TypedBucket;
+use crush_kinds::{AnyBucket, pick_side_by_side};
 use crush_map::{Bucket, CrushMap, Device, ItemId, Kind, Tunables, Weight, buckets_are_sound};
 use std::alloc::{AllocError, Global};
 use std::marker::Model;
@@ -20,7 +20,7 @@ use std::marker::Model;
 /// as lists.
 #[derive(Drop)]
 pub struct Tables {
-    rows: Vec<TableRow>,
+    rows: Vec<TypedBucket>,
     /// The most items that a uniform bucket has.
     widest: usize,
     index: Vec<Option<BucketNo>>,
@@ -73,19 +73,16 @@ impl Tables {
         self.widest
     }
 
-    /// Returns the bucket with a number, if there is one and it has items.
-    fn with_items(&self, bucket: BucketNo) -> Option<&AnyBucket>
-        ensures { IfSome result (λ any. any.now ≡ bucket_at self.now bucket) }
+    /// Returns the bucket with a number, if there is one.
+    fn bucket(&self, number: BucketNo) -> Option<&AnyBucket>
+        ensures { IfSome result (λ any. any.now ≡ bucket_at self.now number) }
     {
-        let row = self.rows.get(bucket.place())?;
-        match row.content() {
-            Content::Bucket(any) => Some(any),
-            Content::Empty { id: _, kind: _ } => None,
-        }
+        let row = self.rows.get(number.place())?;
+        Some(&row.bucket)
     }
 
     /// Picks the items of eight buckets for eight inputs and one attempt, side by side, where all
-    /// eight are trees, or all are uniform and asked for the same early place.
+    /// eight have items, and all are trees, or all are uniform and asked for the same early place.
     pub(crate) fn pick_eight(
         &self,
         buckets: &[BucketNo; 8],
@@ -94,34 +91,12 @@ impl Tables {
     ) -> Option<[ItemId; 8]>
         ensures { IfSome result (λ items. ArePicks self.now buckets.now xs.now r items) }
     {
-        match self.pick_trees(buckets, xs, r) {
-            Some(items) => Some(items),
-            None => self.pick_uniforms(buckets, xs, r),
-        }
-    }
-
-    /// Picks as `pick_eight` does where all eight are trees that have items.
-    fn pick_trees(&self, buckets: &[BucketNo; 8], xs: &[u32; 8], r: u32) -> Option<[ItemId; 8]>
-        ensures { IfSome result (λ items. ArePicks self.now buckets.now xs.now r items) }
-    {
-        let first = self.with_items(buckets[0])?.tree()?;
-        let mut trees = [first; 8];
+        let first = self.bucket(buckets[0])?;
+        let mut asked = [first; 8];
         for lane in 1..8 {
-            trees[lane] = self.with_items(buckets[lane])?.tree()?;
+            asked[lane] = self.bucket(buckets[lane])?;
         }
-        Some(pick_trees(&trees, xs, r))
-    }
-
-    /// Picks as `pick_eight` does where all eight are uniform and asked for the same early place.
-    fn pick_uniforms(&self, buckets: &[BucketNo; 8], xs: &[u32; 8], r: u32) -> Option<[ItemId; 8]>
-        ensures { IfSome result (λ items. ArePicks self.now buckets.now xs.now r items) }
-    {
-        let first = self.with_items(buckets[0])?.uniform()?;
-        let mut uniforms = [first; 8];
-        for lane in 1..8 {
-            uniforms[lane] = self.with_items(buckets[lane])?.uniform()?;
-        }
-        pick_uniforms(&uniforms, xs, r)
+        pick_side_by_side(&asked, xs, r)
     }
 
     /// Returns how many buckets there are.
@@ -150,7 +125,7 @@ impl Tables {
         requires { bucket < length self.now.buckets }
         ensures { result ≡ type_at self.now bucket }
     {
-        self.rows[bucket.place()].of_type()
+        self.rows[bucket.place()].of_type
     }
 
     /// Returns the kind by which a bucket picks.
@@ -158,7 +133,7 @@ impl Tables {
         requires { bucket < length self.now.buckets }
         ensures { result ≡ kind_at self.now bucket }
     {
-        self.rows[bucket.place()].kind()
+        self.rows[bucket.place()].bucket.kind()
     }
 
     /// Returns how many items a bucket has.
@@ -167,7 +142,7 @@ impl Tables {
         ensures value { result ≡ size_at self.now bucket }
         ensures few { result < 2 ^ 16 }
     {
-        self.rows[bucket.place()].size()
+        self.rows[bucket.place()].bucket.size()
     }
 
     /// Returns whether a bucket has no items.
@@ -183,7 +158,7 @@ impl Tables {
         requires { bucket < length self.now.buckets }
         ensures { result.now ≡ (bucket_at self.now bucket).items }
     {
-        self.rows[bucket.place()].items()
+        self.rows[bucket.place()].bucket.items()
     }
 
     /// Says that each item of a bucket is a bucket of a smaller number, or a device. Does nothing.
@@ -224,33 +199,30 @@ impl Tables {
         if let Some(item) = scratch.found(bucket, x, r) {
             return item;
         }
-        match row.content() {
-            Content::Empty { id: _, kind: _ } => unreachable!(),
-            Content::Bucket(any) => scratch.pick(any, place, x, r),
-        }
+        scratch.pick(&row.bucket, place, x, r)
     }
 }
 
 /// Makes the rows of a map's buckets.
-fn rows_of(alloc: Global, buckets: &[Bucket]) -> Result<Vec<TableRow>, AllocError>
+fn rows_of(alloc: Global, buckets: &[Bucket]) -> Result<Vec<TypedBucket>, AllocError>
     requires { All IsFit buckets.now }
     ensures { IfOk result (λ rows. rows.items ≡ map typed_bucket buckets.now) }
 {
     let mut rows = Vec::with_capacity(alloc, buckets.len())?;
     for bucket in buckets {
-        rows.push(TableRow::build(alloc, bucket)?)?;
+        rows.push(TypedBucket::build(alloc, bucket)?)?;
     }
     Ok(rows)
 }
 
 /// Finds the most items that a uniform bucket has.
-fn widest_of(rows: &[TableRow]) -> usize
+fn widest_of(rows: &[TypedBucket]) -> usize
     ensures { IsWidest rows.now result }
 {
     let mut most = 0;
     for row in rows {
-        if row.kind() == Kind::Uniform && row.size() > most {
-            most = row.size();
+        if row.bucket.kind().is_uniform() && row.bucket.size() > most {
+            most = row.bucket.size();
         }
     }
     most

@@ -50,14 +50,11 @@ fn mix(words: Lanes) -> Lanes
     mixed!(words)
 }
 
-/// Returns the hashes of three words, of which the third differs from lane to lane
-/// (`crush_hash32_3`).
+/// Returns the hashes of the three words of each lane (`crush_hash32_3`).
 #[inline(always)]
-pub fn hash3_lanes(x: u32, id: u32, places: &[u32; 4]) -> [u32; 4]
-    ensures { (n : ℕ) → n < 4 → slice_index result n ≡ hash3 x id (slice_index places.now n) }
+fn hash3_of(a: u32x4, b: u32x4, c: u32x4) -> [u32; 4]
+    ensures { (n : ℕ) → n < 4 → slice_index result n ≡ hash3 (slice_index a n) (slice_index b n) (slice_index c n) }
 {
-    let c = u32x4::from_array(*places);
-    let (a, b) = (splat(x), splat(id));
     let h1 = xor(splat(SEED), a);
     let h2 = xor(h1, b);
     let h3 = xor(h2, c);
@@ -67,6 +64,24 @@ pub fn hash3_lanes(x: u32, id: u32, places: &[u32; 4]) -> [u32; 4]
     let t = mix((p.1, q.1, s.2));
     let u = mix((s.0, q.0, t.2));
     u.2.to_array()
+}
+
+/// Returns the hashes of three words, of which the third differs from lane to lane
+/// (`crush_hash32_3`).
+#[inline(always)]
+pub fn hash3_lanes(x: u32, id: u32, places: &[u32; 4]) -> [u32; 4]
+    ensures { (n : ℕ) → n < 4 → slice_index result n ≡ hash3 x id (slice_index places.now n) }
+{
+    hash3_of(splat(x), splat(id), u32x4::from_array(*places))
+}
+
+/// Returns the hashes of three words, of which the second differs from lane to lane
+/// (`crush_hash32_3`).
+#[inline(always)]
+pub fn hash3_four(x: u32, items: &[u32; 4], r: u32) -> [u32; 4]
+    ensures { (n : ℕ) → n < 4 → slice_index result n ≡ hash3 x (slice_index items.now n) r }
+{
+    hash3_of(splat(x), u32x4::from_array(*items), splat(r))
 }
 
 /// Returns the hashes of four words, of which the second differs from lane to lane

@@ -100,3 +100,12 @@ pub fn hash4_lanes(x: u32, items: &[u32; 8], r: u32, id: u32) -> [u32; 8]
 {
     hash4_each(&[x; 8], items, &[r; 8], &[id; 8])
 }
+
+/// Returns the hashes of three words, of which the second differs from lane to lane
+/// (`crush_hash32_3`).
+#[inline(always)]
+pub fn hash3_items(x: u32, items: &[u32; 8], r: u32) -> [u32; 8]
+    ensures { (n : ℕ) → n < 8 → slice_index result n ≡ hash3 x (slice_index items.now n) r }
+{
+    hash3_each(&[x; 8], items, &[r; 8])
+}

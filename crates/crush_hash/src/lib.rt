@@ -209,8 +209,8 @@ pub fn name_hash(name: &[u8]) -> u32
 mod four_lanes;
 mod lanes;
 
-pub use four_lanes::{hash3_lanes, hash4_four};
-pub use lanes::{hash3_each, hash4_each, hash4_lanes};
+pub use four_lanes::{hash3_four, hash3_lanes, hash4_four};
+pub use lanes::{hash3_each, hash3_items, hash4_each, hash4_lanes};
 
 #[cfg(test)]
 mod tests;

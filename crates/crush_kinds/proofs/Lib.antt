@@ -1,11 +1,17 @@
 pub mod Appended
+pub mod Arrivals
+pub mod Changes
+pub mod First
 pub mod Greatest
 pub mod Hashes
 pub mod Heights
 pub mod Lanes
 pub mod Nodes
+pub mod Offers
 pub mod Pickable
 pub mod Picking
+pub mod Quotients
 pub mod Ways
 pub mod Weighed
 pub mod Weights
+pub mod Without

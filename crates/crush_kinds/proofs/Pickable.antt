@@ -7,13 +7,13 @@ use Rattle.std.proofs.lemmas.List.Elements.{All-filter}
 use Rattle.std.proofs.lemmas.List.Folds.{list_any_at}
 use Rattle.crush_types.specs.declared.ItemId.{ItemId}
 use Rattle.crush_types.specs.declared.Kind.{Kind}
-use Rattle.crush_types.specs.declared.Kind.TheVariants.{Uniform, List as ListKind, Tree}
+use Rattle.crush_types.specs.declared.Kind.TheVariants.{Uniform, List as ListKind, Tree, Straw2}
 use Rattle.crush_kinds.specs.Bucket.{BucketView, WeightedItem, no_item, item_at, weight_at, IsItemOf}
-use Rattle.crush_kinds.specs.Kinds.{list_pick, tree_pick}
+use Rattle.crush_kinds.specs.Kinds.{list_pick, tree_pick, straw2_pick}
 use Rattle.crush_kinds.specs.Pick.{pick, pick_as}
 use Rattle.crush_kinds.specs.Pickable.{weighs, pickable_as, pickable, IsWeighed}
 use Rattle.crush_kinds.proofs.Picking.{HasPlaces, pick_item}
-use Rattle.crush_kinds.proofs.Weighed.{inside, list_weighed, list_first, tree_weighed, tree_last}
+use Rattle.crush_kinds.proofs.Weighed.{inside, list_weighed, list_first, tree_weighed, tree_last, straw2_weighed, straw2_first}
 
 kept : (items : List WeightedItem) (place : ℕ) → place < length items → 0 < weight_at items place → IsItemOf (filter weighs items) (item_at items place)
 kept [] place lt some = absurd (omega arith)
@@ -50,11 +50,17 @@ tree_pickable : (any : Bool) (id : ItemId) (items : List WeightedItem) (x r : �
 tree_pickable true id items x r some e = weighed_kept items _ (tree_weighed id items x r e)
 tree_pickable false id items x r some e = rw (tree_last id items x r e) (last_kept items some)
 
+straw2_pickable : (any : Bool) (items : List WeightedItem) (x r : ℕ) → 0 < length items → list_any weighs items ≡ any
+    → IsItemOf (cond any (filter weighs items) (take 1 items)) (straw2_pick items x r)
+straw2_pickable true items x r some e = weighed_kept items _ (straw2_weighed items x r e)
+straw2_pickable false items x r some e = rw (straw2_first items x r some e) (first_kept items some)
+
 as_pickable : HasPlaces → (kind : Kind) (b : BucketView) (x r : ℕ) → 0 < length b.items → IsItemOf (pickable_as kind b.items) (pick_as kind b x r)
 unfolding pick
 as_pickable places Uniform b x r some = pick_item places (record b { kind = Uniform }) x r some
 as_pickable places ListKind b x r some = list_pickable (list_any weighs b.items) b.id b.items x r some refl
 as_pickable places Tree b x r some = tree_pickable (list_any weighs b.items) b.id b.items x r some refl
+as_pickable places Straw2 b x r some = straw2_pickable (list_any weighs b.items) b.items x r some refl
 
 pub pick_pickable : HasPlaces → (b : BucketView) (x r : ℕ) → 0 < length b.items → IsItemOf (pickable b) (pick b x r)
 unfolding pick
@@ -70,6 +76,7 @@ as_weighed : (kind : Kind) (b : BucketView) (x r : ℕ) → kind ≢ Uniform →
 as_weighed Uniform b x r other any = absurd (other refl)
 as_weighed ListKind b x r other any = list_weighed b.id b.items x r any
 as_weighed Tree b x r other any = tree_weighed b.id b.items x r any
+as_weighed Straw2 b x r other any = straw2_weighed b.items x r any
 
 pub pick_weighed : (b : BucketView) (x r place : ℕ) → b.kind ≢ Uniform → 0 < weight_at b.items place → IsWeighed b.items (pick b x r)
 unfolding pick
@@ -101,6 +108,7 @@ of_kind : (kind : Kind) (items : List WeightedItem) (place : ℕ) → place < le
 of_kind Uniform items place few = (place, few, refl)
 of_kind ListKind items place few = any_item (list_any weighs items) items (take 1 items) place (first_item items) few
 of_kind Tree items place few = any_item (list_any weighs items) items (drop (length items - 1) items) place (rest_item items (length items - 1)) few
+of_kind Straw2 items place few = any_item (list_any weighs items) items (take 1 items) place (first_item items) few
 
 pub pickable_item : (b : BucketView) (place : ℕ) → place < length (pickable b) → IsItemOf b.items (item_at (pickable b) place)
 pickable_item b place few = of_kind b.kind b.items place few

@@ -2,13 +2,14 @@
 use Rattle.std.proofs.Common.{ℕ, ◌<◌, ◌%◌, ◌-◌, List, length, min, slice_index, Bool, Option, Some, None, unwrap_or, refl, arith, MatchOption}
 use Rattle.crush_types.specs.declared.ItemId.{ItemId}
 use Rattle.crush_types.specs.declared.Kind.{Kind}
-use Rattle.crush_types.specs.declared.Kind.TheVariants.{Uniform, List as ListKind, Tree}
+use Rattle.crush_types.specs.declared.Kind.TheVariants.{Uniform, List as ListKind, Tree, Straw2}
 use Rattle.crush_kinds.specs.Bucket.{BucketView, WeightedItem, item_at, IsItemOf}
-use Rattle.crush_kinds.specs.Kinds.{uniform_pick, takes, greatest, list_pick, place_within, height_of, tree_pick}
+use Rattle.crush_kinds.specs.Kinds.{uniform_pick, takes, greatest, list_pick, place_within, height_of, tree_pick, straw2_pick, straw2_place}
 use Rattle.crush_permutation.specs.Permutation.{permutation}
 use Rattle.crush_kinds.specs.Pick.{pick, pick_as}
 use Rattle.crush_kinds.specs.Laws.{IsGreatest, NonePasses}
 use Rattle.crush_kinds.proofs.Greatest.{greatest_is}
+use Rattle.crush_kinds.proofs.First.{first_is}
 
 -- the item at a place of the bucket is an item of it
 at_place : (items : List WeightedItem) (place : ℕ) → place < length items → IsItemOf items (item_at items place)
@@ -37,10 +38,15 @@ unfolding tree_pick
 tree_item id items x r some =
     at_place items (min (place_within id items x r 0 (height_of (length items))) (length items - 1)) (omega arith)
 
+straw2_item : (items : List WeightedItem) (x r : ℕ) → 0 < length items → IsItemOf items (straw2_pick items x r)
+unfolding straw2_pick
+straw2_item items x r some = let first = first_is items x r some in at_place items (straw2_place items x r) first.within
+
 as_item : HasPlaces → (kind : Kind) (b : BucketView) (x r : ℕ) → 0 < length b.items → IsItemOf b.items (pick_as kind b x r)
 as_item places Uniform b x r some = uniform_item places b.id b.items x r some
 as_item places ListKind b x r some = list_item b.id b.items x r some
 as_item places Tree b x r some = tree_item b.id b.items x r some
+as_item places Straw2 b x r some = straw2_item b.items x r some
 
 pub pick_item : HasPlaces → (b : BucketView) (x r : ℕ) → 0 < length b.items → IsItemOf b.items (pick b x r)
 unfolding pick

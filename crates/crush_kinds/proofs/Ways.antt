@@ -1,16 +1,16 @@
 -- The ways of walks down trees of different heights.
-use Rattle.std.proofs.Common.{◌≡◌, ℕ, suc, ◌+◌, ◌-◌, ◌/◌, ◌<◌, ◌≤◌, ◌^◌, List, length, min, refl, ap, sym, subst, ◌∙◌, arith}
+use Rattle.std.proofs.Common.{◌≡◌, ℕ, suc, ◌+◌, ◌-◌, ◌/◌, ◌<◌, ◌≤◌, ◌^◌, List, length, min, ap, sym, subst, ◌∙◌, arith}
 use Rattle.std.proofs.Math.Nat.{pow-succ'}
 use Rattle.std.proofs.lemmas.Nat.{pow_pos}
 use Rattle.crush_hash.specs.Hash.{hash4}
 use Rattle.crush_types.specs.declared.ItemId.{ItemId}
 use Rattle.crush_types.specs.declared.Kind.TheVariants.{Tree}
-use Rattle.crush_kinds.specs.Bucket.{BucketView, WeightedItem, CanBeAsked, word, item_at, IsItemOf}
+use Rattle.crush_kinds.specs.Bucket.{BucketView, word, item_at, IsItemOf}
 use Rattle.crush_kinds.specs.Kinds.{tree_pick}
 use Rattle.crush_kinds.specs.Pick.{pick}
 use Rattle.crush_kinds.specs.Private.Descent.{child}
 use Rattle.crush_kinds.specs.Private.Kept.{HasNodes, AreNodes, AtNode}
-use Rattle.crush_kinds.specs.Private.Walks.{tree_height, levels, IsNode, IsOnWay, GoesOn, IsPickAt}
+use Rattle.crush_kinds.specs.Private.Walks.{tree_height, levels, IsNode, IsOnWay, GoesOn, IsPickAt, Keeps}
 use Rattle.crush_kinds.proofs.Nodes.{at_root, node_inside, step_down, at_leaf, few_nodes}
 
 -- a walk begins at the root, however many levels are left above it
@@ -71,25 +71,13 @@ way_ends b leaf item kind is among x r way =
     let place = at_leaf b.id b.items x r (tree_height b) leaf at in
     record { picked = rw kind (is ∙ ap (λ (k : ℕ). item_at b.items (min k (length b.items - 1))) place); is_item = among }
 
--- what a tree bucket has stored, said of the bucket
-pub record Keeps (b : BucketView) (height : ℕ) (nodes : List ℕ) : Type 0 where
-  pub tree : b.kind ≡ Tree
-  pub some : 0 < length b.items
-  pub height_is : height ≡ tree_height b
-  pub low : tree_height b < 17
-  pub size : length nodes ≡ 2 ^ suc (tree_height b)
-  pub weights : HasNodes b.items nodes 0 (tree_height b)
-
-pub keeps : (id : ItemId) (items : List WeightedItem) (height : ℕ) (nodes : List ℕ) (b : BucketView) → record { id = id; kind = Tree; items = items } ≡ b → CanBeAsked items → AreNodes items height nodes → Keeps b height nodes
-keeps id items height nodes b is asked are =
-    let own : BucketView = record { id = id; kind = Tree; items = items } in
-    let least : height ≡ tree_height own = are.least in
-    let all : Keeps own height nodes = record {
-      tree = refl;
-      some = asked.some;
-      height_is = least;
-      low = subst (λ (h : ℕ). h < 17) least are.low;
-      size = are.size ∙ ap (λ (h : ℕ). 2 ^ suc h) least;
-      weights = subst (λ (h : ℕ). HasNodes items nodes 0 h) least are.weights;
-    } in
-    subst (λ (b : BucketView). Keeps b height nodes) is all
+-- what a bucket's tree has is what walks need of it
+pub keeps : (b : BucketView) (height : ℕ) (nodes : List ℕ) → b.kind ≡ Tree → 0 < length b.items → AreNodes b.items height nodes → Keeps b height nodes
+keeps b height nodes kind some are = record {
+  tree = kind;
+  some = some;
+  height_is = are.least;
+  low = subst (λ (h : ℕ). h < 17) are.least are.low;
+  size = are.size ∙ ap (λ (h : ℕ). 2 ^ suc h) are.least;
+  weights = subst (λ (h : ℕ). HasNodes b.items nodes 0 h) are.least are.weights;
+}

@@ -8,10 +8,13 @@ use Rattle.std.proofs.lemmas.Bool.Decides.{nat_tests}
 use Rattle.std.proofs.lemmas.List.Sums.{sum_by-cons}
 use Rattle.crush_hash.specs.Hash.{hash4}
 use Rattle.crush_types.specs.declared.ItemId.{ItemId}
-use Rattle.crush_kinds.specs.Bucket.{WeightedItem, word, item_at, weight_at, weight_within, total_weight}
-use Rattle.crush_kinds.specs.Kinds.{takes, greatest, list_place, list_pick, label, tree_draw, height_of, place_within, tree_pick}
+use Rattle.crush_kinds.specs.Bucket.{WeightedItem, word, at, item_at, weight_at, weight_within, total_weight}
+use Rattle.crush_kinds.specs.Kinds.{takes, greatest, list_place, list_pick, label, tree_draw, height_of, place_within, tree_pick, straw2_place, straw2_pick}
 use Rattle.crush_kinds.specs.Laws.{IsGreatest, NonePasses}
 use Rattle.crush_kinds.specs.Pickable.{weighs, IsWeighed}
+use Rattle.crush_kinds.proofs.Arrivals.{arrives, never_arrives}
+use Rattle.crush_kinds.proofs.Changes.{at_place}
+use Rattle.crush_kinds.proofs.First.{first_is}
 use Rattle.crush_kinds.proofs.Greatest.{greatest_is}
 use Rattle.crush_kinds.proofs.Hashes.{hash4_small}
 use Rattle.crush_kinds.proofs.Heights.{height_enough}
@@ -204,3 +207,36 @@ tree_last id items x r none =
     let enough = height_enough (length items) in
     let here : min (place_within id items x r 0 (height_of (length items))) (length items - 1) ≡ length items - 1 = omega arith in
     ap (λ (place : ℕ). item_at items place) here
+
+-- ---- a straw2 bucket
+
+some_weighs_at : (items : List WeightedItem) → list_any weighs items ≡ true → (place : ℕ) × (0 < weight_at items place)
+some_weighs_at [] any = cc
+some_weighs_at (e ∷ items) any = elim (or_true (weighs e) (list_any weighs items) any) [
+  | inl this ↦ (0, (let some : 0 < e.1.0 = grind (arith, nat_tests) in some))
+  | inr other ↦ (let (place, some) = some_weighs_at items other in (suc place, some))
+]
+
+-- the item that arrives first weighs something, since one that weighs nothing never arrives
+pub straw2_weighed : (items : List WeightedItem) (x r : ℕ) → list_any weighs items ≡ true → IsWeighed items (straw2_pick items x r)
+straw2_weighed items x r any =
+    let (other, some) = some_weighs_at items any in
+    let few = inside items other some in
+    let first = first_is items x r (omega (arith, few)) in
+    let place = straw2_place items x r in
+    let either : (0 < weight_at items place) ⊎ (weight_at items place ≡ 0) = grind arith in
+    rw (at_place items x r place refl) (weighed_at items place (elim either [
+      | inl more ↦ more
+      | inr none ↦ absurd (omega (arith, first.soonest other few, arrives x r (at items other) some, never_arrives x r (at items place) none))
+    ]))
+
+-- where none weighs anything none arrives before the first
+pub straw2_first : (items : List WeightedItem) (x r : ℕ) → 0 < length items → list_any weighs items ≡ false → straw2_pick items x r ≡ item_at items 0
+straw2_first items x r some none =
+    let place = straw2_place items x r in
+    let first = first_is items x r some in
+    let split : (place ≡ 0) ⊎ (0 < place) = grind arith in
+    at_place items x r 0 (elim split [
+      | inl is ↦ is
+      | inr later ↦ absurd (omega (arith, first.before 0 later, never_arrives x r (at items 0) (no_weight_at items 0 none), never_arrives x r (at items place) (no_weight_at items place none)))
+    ])

@@ -20,13 +20,17 @@ pub record BucketView : Type 0 where
 abbrev pub no_item : WeightedItem
 no_item = (record { 0 = pos 0 }, record { 0 = 0 })
 
+-- the item and its weight at a place
+abbrev pub at : List WeightedItem → ℕ → WeightedItem
+at items place = slice_index_or items place no_item
+
 -- the item at a place
 abbrev pub item_at : List WeightedItem → ℕ → ItemId
-item_at items place = (slice_index_or items place no_item).0
+item_at items place = (at items place).0
 
 -- the weight at a place; past the end it is 0
 abbrev pub weight_at : List WeightedItem → ℕ → ℕ
-weight_at items place = (slice_index_or items place no_item).1.0
+weight_at items place = (at items place).1.0
 
 -- the sum of the weights at n places from a place on; past the end there are none
 abbrev pub weight_within : List WeightedItem → ℕ → ℕ → ℕ

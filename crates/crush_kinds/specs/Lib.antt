@@ -6,3 +6,4 @@ pub mod Laws
 pub mod Pick
 pub mod Pickable
 pub mod Private
+pub mod Straw2Laws

@@ -1,6 +1,7 @@
 -- What private clauses alone cite: how the code works. No public clause depends on it.
 pub mod Asked
-pub mod ByKind
 pub mod Descent
+pub mod Draw
 pub mod Kept
+pub mod Soonest
 pub mod Walks

@@ -29,9 +29,9 @@ pub fn a_pick_is_an_item()
     permutation_has_each_place();
 }
 
-/// What a bucket that has items picks is one of those that it can pick. Where a place of a list or
-/// of a tree has a weight above 0, no item of weight 0 is picked; where none has, a list picks its
-/// first item and a tree its last.
+/// What a bucket that has items picks is one of those that it can pick. Where a place of a bucket
+/// that isn't uniform has a weight above 0, no item of weight 0 is picked; where none has, a list
+/// and a straw2 bucket pick their first item, and a tree its last.
 pub fn a_pick_is_pickable()
     ensures pickable { (b : BucketView) (x r : ℕ) → 0 < length b.items → IsItemOf (pickable b) (pick b x r) }
     ensures weighed { (b : BucketView) (x r place : ℕ) → b.kind ≢ Kind.Uniform → 0 < weight_at b.items place → IsWeighed b.items (pick b x r) }

@@ -6,11 +6,17 @@
 #![tactic(auto)]
 
 mod any;
+mod by_weight;
 mod descent;
+mod eight;
 pub mod laws;
 mod list;
 pub mod list_laws;
+mod of_kind;
 mod picker;
+mod soonest;
+mod straw2;
+pub mod straw2_laws;
 mod sums;
 mod tree;
 mod uniform;
@@ -18,11 +24,9 @@ mod uniform_lanes;
 mod walks;
 
 pub use any::AnyBucket;
+pub use by_weight::{picks_by_weight, without_weights};
 pub use crush_permutation::Perm;
-pub use list::ListBucket;
+pub use eight::{is_side_by_side, pick_side_by_side};
+pub use of_kind::{ListBucket, Straw2Bucket, TreeBucket, UniformBucket};
 pub use picker::Picker;
 pub use sums::can_be_asked;
-pub use tree::TreeBucket;
-pub use uniform::UniformBucket;
-pub use uniform_lanes::pick_uniforms;
-pub use walks::pick_trees;

@@ -1,109 +1,34 @@
-//! List buckets.
+//! The picks of list buckets.
 
 ghost use Rattle.std.specs.Prelude.{◌≡◌, ℕ, ◌<◌, ◌≤◌, ◌+◌, ◌*◌, ◌/◌, ◌%◌, ◌^◌, nat_lt, unwrap_or, MatchOption, IfOk, IfSome, length, slice_index};
-ghost use Rattle.crush_kinds.specs.Bucket.{CanBeAsked, IsItemOf, item_at, word, total_weight};
-ghost use Rattle.crush_kinds.specs.Pick.{pick};
-ghost use Rattle.crush_kinds.specs.Kinds.{list_place, greatest, takes};
+ghost use Rattle.crush_kinds.specs.Bucket.{IsItemOf, item_at, word, total_weight};
+ghost use Rattle.crush_kinds.specs.Kinds.{list_pick, list_place, greatest, takes};
 ghost use Rattle.crush_kinds.specs.Private.Kept.{AreSums};
 
-use crate::picker::Picker;
 use crush_hash::hash4_lanes;
-use crush_permutation::Perm;
-use crush_types::{ItemId, Kind, Weight};
+use crush_types::{ItemId, Weight};
 use std::alloc::{AllocError, Global};
-use std::marker::Model;
 
-/// A bucket that picks the last of its items that takes the input. Contracts see the bucket.
-#[derive(Drop)]
-pub struct ListBucket {
+/// Picks the item of a list bucket, which has the sums of its weights up to each place.
+#[tactic(auto, unfolding(crate::specs::Kinds::list_pick))]
+pub(crate) fn list_item(
     id: ItemId,
-    items: Vec<(ItemId, Weight)>,
-    sums: Vec<u32>,
-}
-
-impl Model for ListBucket {
-    ghost use Rattle.crush_kinds.specs.Bucket.{BucketView, CanBeAsked};
-    ghost use Rattle.crush_kinds.specs.Private.Kept.{AreSums};
-    ghost use Rattle.crush_types.specs.declared.Kind.TheVariants.{List};
-
-    ghost Value = { BucketView };
-
-    ghost view = { λ a. record { id = a.id; kind = List; items = a.items.items } };
-
-    ghost invariant = { λ a. record {
-      asked : CanBeAsked a.items.items;
-      sums : AreSums a.items.items a.sums.items;
-    } };
-}
-
-impl ListBucket {
-    /// Makes the list bucket of `items`, in order of place.
-    ///
-    /// `Err(AllocError)`: an allocation failed; nothing is changed.
-    pub fn build(alloc: Global, id: ItemId, items: &[(ItemId, Weight)]) -> Result<Self, AllocError>
-        requires some { 0 < length items.now }
-        requires few { length items.now < 2 ^ 16 }
-        requires light { total_weight items.now < 2 ^ 32 }
-        ensures { IfOk result (λ b. b ≡ record { id = id; kind = Kind.List; items = items.now }) }
-    {
-        let sums = sums_of(alloc, items)?;
-        let items = Vec::from_slice(alloc, items)?;
-        Ok(ListBucket { id, items, sums })
-    }
-
-    /// Returns the bucket's id.
-    pub fn id(&self) -> ItemId
-        ensures { result ≡ self.now.id }
-    {
-        self.id
-    }
-
-    /// Returns the bucket's kind.
-    pub fn kind(&self) -> Kind
-        ensures { result ≡ self.now.kind }
-    {
-        let _id = self.id;
-        Kind::List
-    }
-
-    /// Returns how many items the bucket has.
-    pub fn size(&self) -> usize
-        ensures value { result ≡ length self.now.items }
-        ensures some { 0 < result }
-        ensures few { result < 2 ^ 16 }
-    {
-        self.items.len()
-    }
-
-    /// Returns the items with their weights, in order of place.
-    pub(crate) fn items(&self) -> &[(ItemId, Weight)]
-        ensures { result.now ≡ self.now.items }
-    {
-        self.items.as_slice()
-    }
-
-    /// Picks the item for the input `x` and the attempt `r`.
-    #[tactic(auto, unfolding(crate::specs::Kinds::list_pick, crate::specs::Pick::pick))]
-    pub(crate) fn item_for(&self, x: u32, r: u32) -> ItemId
-        ensures picked { result ≡ pick self.now x r }
-        ensures item { IsItemOf self.now.items result }
-    {
-        let place = list_place(self.id, &self.items, &self.sums, x, r);
-        self.items[place].0
-    }
-}
-
-impl Picker for ListBucket {
-    ghost bucket = { λ b. b };
-
-    fn pick(&self, _perm: &mut Perm, x: u32, r: u32) -> ItemId {
-        let _id = self.id;
-        self.item_for(x, r)
-    }
+    items: &[(ItemId, Weight)],
+    sums: &[u32],
+    x: u32,
+    r: u32,
+) -> ItemId
+    requires some { 0 < length items.now }
+    requires few { length items.now < 2 ^ 16 }
+    requires sums { AreSums items.now sums.now }
+    ensures picked { result ≡ list_pick id items.now x r }
+    ensures item { IsItemOf items.now result }
+{
+    items[list_place(id, items, sums, x, r)].0
 }
 
 /// Makes the list of the sums of the weights up to each place, in 16.16 fixed point.
-fn sums_of(alloc: Global, items: &[(ItemId, Weight)]) -> Result<Vec<u32>, AllocError>
+pub(crate) fn sums_of(alloc: Global, items: &[(ItemId, Weight)]) -> Result<Vec<u32>, AllocError>
     requires { total_weight items.now < 2 ^ 32 }
     ensures { IfOk result (λ sums. AreSums items.now sums.items) }
 {
@@ -120,7 +45,8 @@ fn sums_of(alloc: Global, items: &[(ItemId, Weight)]) -> Result<Vec<u32>, AllocE
 /// last place down, eight places at a time, and then through the first `size mod 8`, whose hashes
 /// are made at once too.
 fn list_place(id: ItemId, items: &[(ItemId, Weight)], sums: &[u32], x: u32, r: u32) -> usize
-    requires asked { CanBeAsked items.now }
+    requires some { 0 < length items.now }
+    requires few { length items.now < 2 ^ 16 }
     requires sums { AreSums items.now sums.now }
     ensures value { result ≡ list_place id items.now x r }
     ensures within { result < length items.now }
@@ -185,7 +111,7 @@ fn first_words(items: &[(ItemId, Weight)], count: usize) -> [u32; 8]
 
 /// Returns the word of the item at `place`, or of the item at `last` where that is lower.
 #[inline]
-fn word_up_to(items: &[(ItemId, Weight)], last: usize, place: usize) -> u32
+pub(crate) fn word_up_to(items: &[(ItemId, Weight)], last: usize, place: usize) -> u32
     requires { last < length items.now }
     ensures { place ≤ last → result ≡ word (item_at items.now place) }
 {
@@ -221,7 +147,7 @@ fn last_of_eight(
 
 /// Returns the words by which the eight items from `from` on enter a hash.
 #[inline]
-fn words(items: &[(ItemId, Weight)], from: usize) -> [u32; 8]
+pub(crate) fn words(items: &[(ItemId, Weight)], from: usize) -> [u32; 8]
     requires within { from + 8 ≤ length items.now }
     requires few { length items.now < 2 ^ 16 }
     ensures { (n : ℕ) → n < 8 → slice_index result n ≡ word (item_at items.now (from + n)) }

@@ -8,7 +8,7 @@ ghost use Rattle.crush_permutation.specs.Permutation.{no_id};
 use crush_permutation::Perm;
 use crush_types::ItemId;
 
-/// A bucket that picks one of its items.
+/// A bucket that has items, of which it picks one.
 pub trait Picker {
     /// The bucket that contracts see.
     ghost bucket: { Self → BucketView };
@@ -28,12 +28,5 @@ pub trait Picker {
     fn pick_eight(&self, perm: &mut Perm, xs: &[u32; 8], r: u32) -> [ItemId; 8]
         requires { perm.old.of ≡ perm_of (bucket self.now) }
         ensures picked { (lane : ℕ) → lane < 8 → slice_index_or result lane no_id ≡ pick (bucket self.now) (slice_index xs.now lane) r }
-        ensures same { perm.new.of ≡ perm.old.of }
-    {
-        let mut items = [ItemId(0); 8];
-        for lane in 0..8 {
-            items[lane] = self.pick(perm, xs[lane], r);
-        }
-        items
-    }
+        ensures same { perm.new.of ≡ perm.old.of };
 }

@@ -1,95 +1,80 @@
-//! Tree buckets.
+//! The picks of tree buckets.
 
 ghost use Rattle.std.specs.Prelude.{◌≡◌, ◌<◌, ◌≤◌, ◌+◌, ◌*◌, ◌^◌, ◌++◌, IfOk, length};
-ghost use Rattle.crush_kinds.specs.Bucket.{CanBeAsked, IsItemOf, total_weight};
-ghost use Rattle.crush_kinds.specs.Pick.{pick};
-ghost use Rattle.crush_kinds.specs.Kinds.{height_of, place_within};
-ghost use Rattle.crush_kinds.specs.Private.Walks.{tree_height, IsNode, GoesOn, IsPickAt};
+ghost use Rattle.crush_kinds.specs.Bucket.{IsItemOf, total_weight};
+ghost use Rattle.crush_kinds.specs.Kinds.{height_of, place_within, tree_pick};
+ghost use Rattle.crush_kinds.specs.Private.Walks.{tree_height, IsNode, GoesOn, IsPickAt, Keeps};
 ghost use Rattle.crush_kinds.specs.Private.Kept.{AreNodes, HasNodes, node_weights};
 
+use crate::any::AnyBucket;
 use crate::descent::{child, down, last_down, places, two_down};
-use crate::picker::Picker;
 use crate::sums::weight_within;
-use crate::walks::pick_trees;
-use crush_permutation::Perm;
-use crush_types::{ItemId, Kind, Weight};
+use crush_types::{ItemId, Weight};
 use std::alloc::{AllocError, Global};
 use std::marker::Model;
 
-/// A bucket that picks by a walk down a binary tree over its places. Contracts see the bucket.
+/// A binary tree over the places of a bucket.
 #[derive(Drop)]
-pub struct TreeBucket {
-    id: ItemId,
-    height: u32,
-    items: Vec<(ItemId, Weight)>,
-    nodes: Vec<u32>,
+pub(crate) struct Tree {
+    pub(crate) height: u32,
+    /// The weights of the nodes, at their labels.
+    pub(crate) nodes: Vec<u32>,
 }
 
-impl Model for TreeBucket {
-    ghost use Rattle.crush_kinds.specs.Bucket.{BucketView, CanBeAsked};
-    ghost use Rattle.crush_kinds.specs.Private.Kept.{AreNodes};
-    ghost use Rattle.crush_types.specs.declared.Kind.TheVariants.{Tree};
-
-    ghost Value = { BucketView };
-
-    ghost view = { λ a. record { id = a.id; kind = Tree; items = a.items.items } };
-
-    ghost invariant = { λ a. record {
-      asked : CanBeAsked a.items.items;
-      nodes : AreNodes a.items.items a.height a.nodes.items;
-    } };
-}
-
-impl TreeBucket {
-    /// Makes the tree bucket of `items`, in order of place.
+impl Tree {
+    /// Makes the tree over the places of `items`.
     ///
     /// `Err(AllocError)`: an allocation failed; nothing is changed.
-    pub fn build(alloc: Global, id: ItemId, items: &[(ItemId, Weight)]) -> Result<Self, AllocError>
-        requires some { 0 < length items.now }
+    pub(crate) fn build(alloc: Global, items: &[(ItemId, Weight)]) -> Result<Self, AllocError>
         requires few { length items.now < 2 ^ 16 }
         requires light { total_weight items.now < 2 ^ 32 }
-        ensures { IfOk result (λ b. b ≡ record { id = id; kind = Kind.Tree; items = items.now }) }
+        ensures { IfOk result (λ tree. AreNodes items.now tree.height tree.nodes.items) }
     {
         let height = height_for(items.len());
         let nodes = nodes_of(alloc, items, height)?;
-        let items = Vec::from_slice(alloc, items)?;
-        Ok(TreeBucket {
-            id,
-            height,
-            items,
-            nodes,
-        })
+        Ok(Tree { height, nodes })
+    }
+}
+
+/// A tree bucket that has an item, with its tree. Contracts see the bucket.
+#[derive(Drop)]
+pub(crate) struct TreeRef<'a> {
+    bucket: &'a AnyBucket,
+    tree: &'a Tree,
+}
+
+impl<'a> Model for TreeRef<'a> {
+    ghost use Rattle.crush_kinds.specs.Bucket.{BucketView};
+    ghost use Rattle.crush_kinds.specs.Private.Walks.{Keeps};
+
+    ghost Value = { BucketView };
+
+    ghost view = { λ a. a.bucket.now };
+
+    ghost invariant = { λ a. Keeps a.bucket.now a.tree.now.height a.tree.now.nodes.items };
+}
+
+impl<'a> TreeRef<'a> {
+    ghost use Rattle.std.specs.Prelude.{◌≡◌, ◌+◌, ◌^◌};
+    ghost use Rattle.crush_kinds.specs.Bucket.{IsItemOf};
+    ghost use Rattle.crush_kinds.specs.Kinds.{place_within, tree_pick};
+    ghost use Rattle.crush_kinds.specs.Private.Walks.{tree_height, IsNode, GoesOn, IsPickAt, Keeps};
+
+    /// Makes the bucket with its tree.
+    #[inline]
+    pub(crate) fn new(bucket: &'a AnyBucket, tree: &'a Tree) -> TreeRef<'a>
+        requires { Keeps bucket.now tree.now.height tree.now.nodes.items }
+        ensures { result ≡ bucket.now }
+    {
+        TreeRef { bucket, tree }
     }
 
     /// Returns the bucket's id.
-    pub fn id(&self) -> ItemId
+    #[inline]
+    pub(crate) fn id(&self) -> ItemId
         ensures { result ≡ self.now.id }
     {
-        self.id
-    }
-
-    /// Returns the bucket's kind.
-    pub fn kind(&self) -> Kind
-        ensures { result ≡ self.now.kind }
-    {
-        let _id = self.id;
-        Kind::Tree
-    }
-
-    /// Returns how many items the bucket has.
-    pub fn size(&self) -> usize
-        ensures value { result ≡ length self.now.items }
-        ensures some { 0 < result }
-        ensures few { result < 2 ^ 16 }
-    {
-        self.items.len()
-    }
-
-    /// Returns the items with their weights, in order of place.
-    pub(crate) fn items(&self) -> &[(ItemId, Weight)]
-        ensures { result.now ≡ self.now.items }
-    {
-        self.items.as_slice()
+        self.bucket.id()
     }
 
     /// Returns the height of the tree.
@@ -97,7 +82,7 @@ impl TreeBucket {
     pub(crate) fn height(&self) -> u32
         ensures { result ≡ tree_height self.now }
     {
-        self.height
+        self.tree.height
     }
 
     /// Returns the root.
@@ -105,7 +90,7 @@ impl TreeBucket {
     pub(crate) fn root(&self) -> u32
         ensures { result ≡ 2 ^ tree_height self.now }
     {
-        places(self.height) as u32
+        places(self.tree.height) as u32
     }
 
     /// Returns the child to which a node's hash leads where `left` levels are below the child. The
@@ -115,10 +100,10 @@ impl TreeBucket {
         requires { IsNode self.now (left + 1) node }
         ensures { GoesOn self.now left node hash result }
     {
-        if left >= self.height {
+        if left >= self.tree.height {
             return node;
         }
-        child(&self.nodes, hash, node as usize, places(left)) as u32
+        child(&self.tree.nodes, hash, node as usize, places(left)) as u32
     }
 
     /// Returns the item at a leaf's place, or the last item where it lies past the end.
@@ -126,58 +111,44 @@ impl TreeBucket {
     pub(crate) fn item_at(&self, leaf: u32) -> ItemId
         ensures { IsPickAt self.now leaf result }
     {
-        self.items[(leaf as usize / 2).min(self.items.len() - 1)].0
+        self.bucket
+            .item((leaf as usize / 2).min(self.bucket.size() - 1))
     }
 
     /// Finds the place at which the walk from the root ends.
     fn place_for(&self, x: u32, r: u32) -> usize
         ensures { result ≡ place_within self.now.id self.now.items x r 0 (tree_height self.now) }
     {
-        let mut node = places(self.height);
-        let mut level = self.height;
+        let (id, nodes) = (self.bucket.id(), self.tree.nodes.as_slice());
+        let mut node = places(self.tree.height);
+        let mut level = self.tree.height;
         while level > 2 {
-            node = down(self.id, &self.nodes, x, r, node, level);
+            node = down(id, nodes, x, r, node, level);
             level -= 3;
         }
         if level == 2 {
-            node = two_down(self.id, &self.nodes, x, r, node);
+            node = two_down(id, nodes, x, r, node);
         } else if level == 1 {
-            node = last_down(self.id, &self.nodes, x, r, node);
+            node = last_down(id, nodes, x, r, node);
         }
         node / 2
     }
 
     /// Picks the item for the input `x` and the attempt `r`.
-    #[tactic(auto, unfolding(crate::specs::Kinds::tree_pick, crate::specs::Pick::pick))]
-    pub(crate) fn item_for(&self, x: u32, r: u32) -> ItemId
-        ensures picked { result ≡ pick self.now x r }
+    #[tactic(auto, unfolding(crate::specs::Kinds::tree_pick))]
+    pub(crate) fn item(&self, x: u32, r: u32) -> ItemId
+        ensures picked { result ≡ tree_pick self.now.id self.now.items x r }
         ensures item { IsItemOf self.now.items result }
     {
         let place = self.place_for(x, r);
-        self.items[place.min(self.items.len() - 1)].0
-    }
-}
-
-impl Picker for TreeBucket {
-    ghost bucket = { λ b. b };
-
-    fn pick(&self, _perm: &mut Perm, x: u32, r: u32) -> ItemId {
-        let _id = self.id;
-        self.item_for(x, r)
-    }
-
-    fn pick_eight(&self, _perm: &mut Perm, xs: &[u32; 8], r: u32) -> [ItemId; 8] {
-        pick_trees(&[self; 8], xs, r)
+        self.bucket.item(place.min(self.bucket.size() - 1))
     }
 }
 
 /// Finds the least height of a tree with at least `size` leaves.
 fn height_for(size: usize) -> u32
-    requires some { 0 < size }
     requires few { size < 2 ^ 16 }
     ensures value { result ≡ height_of size }
-    ensures holds { size ≤ 2 ^ result }
-    ensures near { 2 ^ result < 2 * size }
     ensures low { result < 17 }
 {
     let mut height = 0;

@@ -2,8 +2,7 @@
 use Rattle.std.proofs.Common.{◌≡◌, ℕ, ◌+◌, ◌-◌, ◌*◌, ◌/◌, ◌^◌, ◌<◌, ◌≤◌, slice_index, arith}
 use Rattle.std.proofs.Math.Nat.{mul-le-mul_right}
 use Rattle.crush_ln.specs.declared.tables.TheConstants.{RECIPROCALS}
-use Rattle.crush_ln.specs.Table.{first_of, last_of}
-use Rattle.crush_ln.proofs.Table.{part_starts, part_ends}
+use Rattle.crush_ln.proofs.Table.{first_of, last_of, part_starts, part_ends}
 
 pub product_below : (m k : ℕ) → 2 ^ 15 ≤ m → m ≤ 2 ^ 16 → k ≡ m / 2 ^ 8 - 128 → m * slice_index RECIPROCALS k < (2 ^ 15 + 2 ^ 8) * 2 ^ 48
 product_below m k low high is =

@@ -4,8 +4,7 @@ use Rattle.std.proofs.lemmas.Bool.Decides.{nat_tests}
 use Rattle.std.proofs.Math.Nat.{mul-le-mul_right, pow-succ', mul_assoc}
 use Rattle.crush_ln.specs.declared.tables.TheConstants.{RECIPROCALS, LOGS, REST_LOGS}
 use Rattle.crush_ln.specs.Log.{scaled, mantissa_log, log, delay}
-use Rattle.crush_ln.specs.Table.{last_of, last_rest}
-use Rattle.crush_ln.proofs.Table.{part_ends, part_goes_on, rest_rises}
+use Rattle.crush_ln.proofs.Table.{last_of, last_rest, part_ends, part_goes_on, rest_rises}
 use Rattle.crush_ln.proofs.Parts.{product_below, product_above}
 
 -- ---- within the tables
@@ -175,11 +174,19 @@ no_sooner u v le few small =
       | inr is ↦ (let h = delay_falls u 65533 few (omega arith) in rw is (omega (arith, h, b, c)))
     ]
 
-pub least_delay : (u : ℕ) → u < 2 ^ 16 → 43930352 ≤ delay u
+pub least_delay : (u : ℕ) → u < 2 ^ 16 → delay 65534 ≤ delay u
 least_delay u few =
-    let (a, b, c) = at_the_end in
+    let (least, greatest, before) = at_the_end in
     let split : (u < 65535) ⊎ (u ≡ 65535) = grind arith in
     elim split [
-      | inl less ↦ (let h = delay_falls u 65534 (omega arith) (omega arith) in omega (arith, h, a))
-      | inr is ↦ rw is (omega (arith, b))
+      | inl less ↦ delay_falls u 65534 (omega arith) (omega arith)
+      | inr is ↦ rw is (omega (arith, least, greatest))
     ]
+
+pub at_0 : delay 0 ≡ 2 ^ 48
+unfolding delay log scaled mantissa_log
+at_0 = refl
+
+pub delay_small : (u : ℕ) → delay u ≤ 2 ^ 48
+unfolding delay
+delay_small u = omega arith

@@ -1,5 +1,8 @@
-//! Ceph's logarithm of a draw, in fixed point (`crush_ln` of its `src/crush/mapper.c`), and how late
-//! an item with such a draw arrives.
+//! Ceph's logarithm of a draw, in fixed point, by its tables, and how late an item with such a draw
+//! arrives.
+//!
+//! Sources: Ceph's `src/crush/mapper.c` (`crush_ln`) and `src/crush/crush_ln_table.h`. The functions
+//! allocate nothing and can't fail.
 #![tactic(auto)]
 
 ghost use Rattle.std.specs.Prelude.{◌≡◌, ◌<◌, ◌≤◌, ◌+◌, ◌*◌, ◌^◌, slice_index};
@@ -9,7 +12,7 @@ ghost use Rattle.crush_ln.specs.declared.tables.TheConstants.{RECIPROCALS, LOGS,
 pub mod laws;
 pub mod tables;
 
-/// Returns the 128th part of the reciprocal at `place`.
+/// Returns the reciprocal at `place`.
 #[inline(always)]
 fn reciprocal(place: usize) -> u64
     requires { place < 129 }
@@ -18,6 +21,7 @@ fn reciprocal(place: usize) -> u64
     tables::RECIPROCALS[place]
 }
 
+/// Returns the logarithm at `place`.
 #[inline(always)]
 fn log_at(place: usize) -> u64
     requires { place < 129 }
@@ -26,6 +30,7 @@ fn log_at(place: usize) -> u64
     tables::LOGS[place]
 }
 
+/// Returns the logarithm of the rest at `place`.
 #[inline(always)]
 fn rest_log(place: usize) -> u64
     requires { place < 256 }
@@ -34,7 +39,8 @@ fn rest_log(place: usize) -> u64
     tables::REST_LOGS[place]
 }
 
-/// Returns a number above 0, doubled until it is at least 2^15, with its exponent.
+/// Returns a number above 0, doubled until it is at least 2^15, after its exponent: 15, less one for
+/// each time.
 #[inline(always)]
 fn scaled(number: u32) -> (u32, u32)
     requires some { 0 < number }
@@ -57,11 +63,11 @@ fn mantissa_log(mantissa: u32) -> u64
     ensures small { result < 2 ^ 47 }
 {
     let place = (mantissa >> 8) as usize - 128;
-    let rest = u64::from(mantissa) * reciprocal(place) / 281_474_976_710_656 % 256;
-    (log_at(place) + rest_log(rest as usize)) / 16
+    let rest = (u64::from(mantissa) * reciprocal(place) >> 48) % 256;
+    (log_at(place) + rest_log(rest as usize)) >> 4
 }
 
-/// Returns the delay of a draw: 2^48 less its logarithm, 2^48 for the draw 0.
+/// Returns the delay of a draw: how far its logarithm lies below 2^48.
 pub fn delay(draw: u32) -> u64
     requires { draw < 2 ^ 16 }
     ensures value { result ≡ delay draw }

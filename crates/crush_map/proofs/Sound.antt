@@ -16,8 +16,8 @@ use Rattle.crush_types.specs.declared.ItemId.{ItemId}
 use Rattle.crush_types.specs.declared.Weight.{Weight}
 use Rattle.crush_types.specs.declared.Kind.{Kind}
 use Rattle.crush_map.specs.declared.limits.TheConstants.{BUCKET_LIMIT, ITEM_LIMIT, TOTAL_WEIGHT_LIMIT, RULE_LIMIT, STEP_LIMIT, NUMBER_LIMIT, RULE_ID_LIMIT, TRIES_LIMIT, VARY_R_LIMIT}
-use Rattle.crush_map.specs.Faults.{Known, Ids, no_ids, nothing, ◌when◌, has_number, has_id, with_id, items_fault, contents_fault, bucket_checks, bucket_fault, with_bucket, with_device, with_type, known_types, known_devices, is_bucket_id, choose_fault, step_fault, steps_fault, rule_fault, with_rule, known_buckets, known_rules, is_count, are_in_range, end_fault, end_checks, type_fault, device_fault, is_name, is_reserved}
-use Rattle.crush_types.specs.Kinds.{is_uniform}
+use Rattle.crush_map.specs.Faults.{Known, Ids, no_ids, nothing, ◌when◌, has_number, has_id, with_id, items_fault, contents_fault, bucket_checks, bucket_fault, with_bucket, with_device, with_type, known_types, known_devices, is_bucket_id, is_heavy, is_too_heavy, choose_fault, step_fault, steps_fault, rule_fault, with_rule, known_buckets, known_rules, is_count, are_in_range, end_fault, end_checks, type_fault, device_fault, is_name, is_reserved}
+use Rattle.crush_types.specs.Kinds.{is_straw2, is_uniform}
 use Rattle.crush_types.specs.Weights.{has_equal_weights, total_weight}
 use Rattle.crush_map.specs.Map.{Map, draft_of, IsMap}
 use Rattle.crush_map.specs.Laws.{Pass}
@@ -168,6 +168,10 @@ uneven true true h k = refl
 uneven true false h k = cc
 uneven false even h k = cc
 
+not_both : (a b : Bool) → (a && b) ≡ false → a ≡ true → b ≡ false
+not_both true b h k = h
+not_both false b h k = cc
+
 below : (a b : ℕ) → nat_lt a b ≡ false → b ≤ a
 below a b h = grind (arith, nat_tests)
 
@@ -177,19 +181,19 @@ item_is m i j items all None h = tt
 item_is m i j items all (Some item) h = record { declared = sym (item_at m (take i m.buckets) all item.0.0) ∙ h.declared; once = h.once }
 
 abbrev contents_checks : Known → Kind → List (ItemId × Weight) → List (Option FaultCode)
-contents_checks known alg items = items_fault known no_ids items ∷ (M8 when (is_uniform alg && not (has_equal_weights items))) ∷ (M7 when nat_lt TOTAL_WEIGHT_LIMIT (total_weight items)) ∷ []
+contents_checks known alg items = items_fault known no_ids items ∷ (M8 when (is_uniform alg && not (has_equal_weights items))) ∷ (M7 when is_too_heavy alg items) ∷ []
 
 record Contents (known : Known) (b : Bucket) : Type 0 where
   pub items : items_fault known no_ids b.items ≡ None
   pub even : (is_uniform b.alg && not (has_equal_weights b.items)) ≡ false
-  pub light : nat_lt TOTAL_WEIGHT_LIMIT (total_weight b.items) ≡ false
+  pub light : is_too_heavy b.alg b.items ≡ false
 
 contents : (known : Known) (b : Bucket) → contents_fault known b.alg b.items ≡ None → Contents known b
 unfolding contents_fault
 contents known b h = record {
   items = passes (contents_checks known b.alg b.items) 0 (items_fault known no_ids b.items) refl h;
   even = fails M8 _ (passes (contents_checks known b.alg b.items) 1 (M8 when (is_uniform b.alg && not (has_equal_weights b.items))) refl h);
-  light = fails M7 _ (passes (contents_checks known b.alg b.items) 2 (M7 when nat_lt TOTAL_WEIGHT_LIMIT (total_weight b.items)) refl h);
+  light = fails M7 _ (passes (contents_checks known b.alg b.items) 2 (M7 when is_too_heavy b.alg b.items) refl h);
 }
 
 bucket_passes : (m : Map) (i : ℕ) (b : Bucket) → length (take i m.buckets) ≡ i → AllBuckets (take i m.buckets) → bucket_fault (known_at m (take i m.buckets)) b ≡ None → IsBucketAt m i b
@@ -211,7 +215,8 @@ bucket_passes m i b len all h =
       few = below ITEM_LIMIT (length b.items) (fails M1 _ (passes (bucket_checks k b) 7 (M1 when nat_lt ITEM_LIMIT (length b.items)) refl h));
       items = λ j. item_is m i j b.items all (slice_get b.items j) (items_pass k no_ids b.items held.items j);
       even = uneven (is_uniform b.alg) (has_equal_weights b.items) held.even;
-      light = let h : total_weight b.items ≤ TOTAL_WEIGHT_LIMIT = below TOTAL_WEIGHT_LIMIT (total_weight b.items) held.light in omega (arith, h);
+      light = let h : total_weight b.items ≤ TOTAL_WEIGHT_LIMIT = below TOTAL_WEIGHT_LIMIT (total_weight b.items) (left_false _ (is_straw2 b.alg && list_any is_heavy b.items) held.light) in omega (arith, h);
+      signed = not_both (is_straw2 b.alg) (list_any is_heavy b.items) (right_false (nat_lt TOTAL_WEIGHT_LIMIT (total_weight b.items)) _ held.light);
     }
 
 -- ---- all buckets of a map

@@ -1,7 +1,7 @@
 -- Which drafts are refused, and with which fault.
 --
 -- The limits are in `src/limits.rt`; each is itself allowed.
-use Rattle.std.specs.Prelude.{ℕ, ℤ, pos, negsuc, int_le, neg_ℤ, ◌+◌, nat_lt, nat_le, ◌==◌, ◌&&◌, ◌||◌, not, Bool, true, false, List, [], ◌∷◌, ◌++◌, length, map, fold, codes, bytes_eq, Option, Some, None, if◌then◌else◌}
+use Rattle.std.specs.Prelude.{ℕ, ℤ, pos, negsuc, int_le, neg_ℤ, ◌+◌, nat_lt, nat_le, ◌==◌, ◌&&◌, ◌||◌, not, Bool, false, List, [], ◌∷◌, ◌++◌, length, map, fold, codes, bytes_eq, Option, Some, None, if◌then◌else◌}
 use Rattle.std.specs.List.{list_any, list_all}
 use Rattle.crush_map.specs.declared.fault.FaultCode.{FaultCode}
 use Rattle.crush_map.specs.declared.fault.FaultCode.TheVariants.{M1, M2, M3, M4, M5, M6, M7, M8, M9, M10, M11, M12, M13, M14, M15}

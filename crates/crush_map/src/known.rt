@@ -1,6 +1,7 @@
 //! The numbers, ids and names declared so far, and the checks of the next element against them.
 
 ghost use Rattle.std.specs.Prelude.{◌≡◌, ◌≤◌, IfOk, if◌then◌else◌, is_some, length};
+ghost use Rattle.std.specs.List.{list_any};
 ghost use Rattle.crush_map.specs.Faults as spec;
 
 use crate::draft::{Bucket, Device, Rule, Step, Tunables, TypeName};
@@ -9,7 +10,8 @@ use crate::form::{is_name, is_reserved};
 use crate::ids::Ids;
 use crate::limits::{
     BUCKET_LIMIT, COUNT_LIMIT, DEVICE_LIMIT, ITEM_LIMIT, NUMBER_LIMIT, RULE_ID_LIMIT, RULE_LIMIT,
-    STEP_LIMIT, TOTAL_TRIES_LIMIT, TOTAL_WEIGHT_LIMIT, TRIES_LIMIT, TYPE_LIMIT, VARY_R_LIMIT,
+    STEP_LIMIT, STRAW2_WEIGHT_LIMIT, TOTAL_TRIES_LIMIT, TOTAL_WEIGHT_LIMIT, TRIES_LIMIT,
+    TYPE_LIMIT, VARY_R_LIMIT,
 };
 use crate::names::Names;
 use crate::numbers::Numbers;
@@ -166,10 +168,10 @@ impl Known {
         if let Some(fault) = self.items_fault(alloc, items)? {
             return Ok(Some(fault));
         }
-        if is_uniform(alg) && !has_equal_weights(items) {
+        if alg.is_uniform() && !has_equal_weights(items) {
             return Ok(Some(FaultCode::M8));
         }
-        if total_weight(items) > TOTAL_WEIGHT_LIMIT {
+        if is_too_heavy(alg, items) {
             return Ok(Some(FaultCode::M7));
         }
         Ok(None)
@@ -335,11 +337,20 @@ fn is_bucket_id(id: ItemId) -> bool
     id.0 < 0 && id.0.unsigned_abs() - 1 <= NUMBER_LIMIT
 }
 
-/// Returns whether all items of a bucket of the kind `alg` must have the same weight.
-fn is_uniform(alg: Kind) -> bool
-    ensures { result ≡ spec.is_uniform alg }
+/// Returns whether the weights of a bucket of the kind `alg` have too great a sum, or one of them is
+/// too great for that kind.
+fn is_too_heavy(alg: Kind, items: &[(ItemId, Weight)]) -> bool
+    requires { length items.now ≤ ITEM_LIMIT }
+    ensures { result ≡ spec.is_too_heavy alg items.now }
 {
-    matches!(alg, Kind::Uniform)
+    total_weight(items) > TOTAL_WEIGHT_LIMIT || (alg.is_straw2() && has_heavy(items))
+}
+
+/// Returns whether an item's weight is too great for a straw2 bucket.
+fn has_heavy(items: &[(ItemId, Weight)]) -> bool
+    ensures { result ≡ list_any spec.is_heavy items.now }
+{
+    items.iter().any(|item| item.1.0 > STRAW2_WEIGHT_LIMIT)
 }
 
 /// Returns whether each tunable is in its range.

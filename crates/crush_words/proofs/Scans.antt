@@ -2,8 +2,8 @@
 use Rattle.std.proofs.Common.{◌≡◌, ℕ, ◌<◌, ◌==◌, List, [], ◌∷◌, take, drop, Bool, true, false, if◌then◌else◌, refl, ap, arith}
 use Rattle.std.proofs.lemmas.Bool.Decides.{nat_tests}
 use Rattle.crush_map.specs.Faults.{is_name_byte}
-use Rattle.crush_words.specs.Words.{words_from, is_blank, onto, alone}
-use Rattle.crush_words.specs.Private.Scan.{run_len, starts_word}
+use Rattle.crush_words.specs.Words.{words_from, onto, alone}
+use Rattle.crush_words.specs.Private.Scan.{run_len}
 
 name_not_lf : (b : ℕ) → is_name_byte b ≡ true → (b == 10) ≡ false
 name_not_lf b e = grind (arith, nat_tests)
@@ -14,10 +14,10 @@ other false x y e = refl
 
 -- the first word has n bytes
 abbrev IsFirst : ℕ → ℕ → List ℕ → Type 0
-IsFirst line n bytes = words_from false line bytes ≡ record { line = line; text = take n bytes } ∷ words_from false line (drop n bytes)
+IsFirst line n bytes = words_from false line bytes ≡ record { line = line; text = take n bytes; straw2 = false } ∷ words_from false line (drop n bytes)
 
 ahead : (line b : ℕ) (c : ℕ) (cs : List ℕ) (k : Bool) → is_name_byte c ≡ k → (0 < run_len (c ∷ cs) → IsFirst line (run_len (c ∷ cs)) (c ∷ cs)) →
-    (if is_name_byte c then onto b (words_from false line (c ∷ cs)) else alone line b (words_from false line (c ∷ cs))) ≡ record { line = line; text = b ∷ take (run_len (c ∷ cs)) (c ∷ cs) } ∷ words_from false line (drop (run_len (c ∷ cs)) (c ∷ cs))
+    (if is_name_byte c then onto b (words_from false line (c ∷ cs)) else alone line b (words_from false line (c ∷ cs))) ≡ record { line = line; text = b ∷ take (run_len (c ∷ cs)) (c ∷ cs); straw2 = false } ∷ words_from false line (drop (run_len (c ∷ cs)) (c ∷ cs))
 ahead line b c cs true e more =
     let some : 0 < run_len (c ∷ cs) = rw e (omega arith) in
     rw e (ap (onto b) (rw e at (more some)))

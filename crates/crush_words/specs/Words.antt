@@ -57,7 +57,7 @@ words_from false line (b ∷ bytes) =
 
 -- the same words in a text that asks for straw2, or doesn't
 abbrev pub in_text : Bool → List Word → List Word
-in_text straw2 ws = map (λ w. record w { straw2 = straw2 }) ws
+in_text straw2 ws = map (λ (w : Word). record w { straw2 = straw2 }) ws
 
 -- the words of a text; its first line is 1
 abbrev pub words : List ℕ → List Word

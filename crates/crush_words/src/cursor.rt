@@ -4,15 +4,17 @@ ghost use Rattle.std.specs.Prelude.{◌≡◌, ◌<◌, ◌∷◌, [], length, M
 ghost use Rattle.crush_words.specs.Words as spec;
 
 use crate::lex::first_word;
+use crate::mark::asks_for_straw2;
 use crate::word::Word;
 use std::marker::Model;
 
-/// The rest of a text that is read word by word. Contracts see the words that remain, and the line
-/// of the last word read.
+/// The rest of a text that is read word by word, and whether the whole text asks for straw2.
+/// Contracts see the words that remain, and the line of the last word read.
 #[derive(Drop)]
 pub struct Cursor<'a> {
     line: usize,
     rest: &'a [u8],
+    straw2: bool,
 }
 
 impl<'a> Model for Cursor<'a> {
@@ -21,7 +23,7 @@ impl<'a> Model for Cursor<'a> {
 
     ghost Value = { spec.Rest };
 
-    ghost view = { λ c. record { line = c.line; words = spec.words_from false c.line c.rest.now } };
+    ghost view = { λ c. record { line = c.line; words = spec.in_text c.straw2 (spec.words_from false c.line c.rest.now) } };
 
     ghost invariant = { λ c. c.line + length c.rest.now < 2 ^ 64 };
 }
@@ -34,6 +36,7 @@ impl<'a> Cursor<'a> {
         Cursor {
             line: 1,
             rest: text,
+            straw2: asks_for_straw2(text),
         }
     }
 
@@ -50,6 +53,11 @@ impl<'a> Cursor<'a> {
     {
         let (word, rest) = first_word(self.line, self.rest)?;
         let line = word.line();
-        Some((word, Cursor { line, rest }))
+        let rest = Cursor {
+            line,
+            rest,
+            ..*self
+        };
+        Some((word.in_text(self.straw2), rest))
     }
 }

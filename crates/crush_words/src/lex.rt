@@ -34,7 +34,7 @@ fn word_len(bytes: &[u8]) -> usize
     requires { scan.starts_word bytes.now ≡ true }
     ensures bound { result ≤ length bytes.now }
     ensures some { 0 < result }
-    ensures value { (line : ℕ) → spec.words_from false line bytes.now ≡ record { line = line; text = take result bytes.now } ∷ spec.words_from false line (drop result bytes.now) }
+    ensures value { (line : ℕ) → spec.words_from false line bytes.now ≡ record { line = line; text = take result bytes.now; straw2 = false } ∷ spec.words_from false line (drop result bytes.now) }
 {
     let len = run_len(bytes);
     if len == 0 { 1 } else { len }

@@ -2,13 +2,15 @@
 
 ghost use Rattle.std.specs.Prelude.{◌≡◌, ◌++◌, ◌∷◌, [], codes, IfOk, OnOk};
 ghost use Rattle.std.specs.Fmt.{decimal, signed_decimal};
-ghost use Rattle.std.specs.List.{flat_map};
+ghost use Rattle.std.specs.List.{flat_map, list_any};
 ghost use Rattle.crush_map.specs.Map.{IsMap};
+ghost use Rattle.crush_types.specs.Kinds.{is_straw2};
 ghost use Rattle.crush_writing.specs.Canonical as spec;
 
 use crate::lookup::Names;
 use crush_map::{
-    Bucket, CrushMap, Device, ItemId, Kind, Rule, Step, Tunables, TypeName, Weight, weight_text,
+    Bucket, CrushMap, Device, ItemId, Rule, Step, Tunables, TypeName, Weight, straw2_mark,
+    weight_text,
 };
 use std::alloc::{AllocError, Global};
 
@@ -146,17 +148,6 @@ fn write_items(
     Ok(())
 }
 
-/// Returns the word of a bucket's algorithm.
-fn alg_text(alg: Kind) -> &'static str
-    ensures { result.now ≡ spec.alg_text alg }
-{
-    match alg {
-        Kind::Uniform => "uniform",
-        Kind::List => "list",
-        Kind::Tree => "tree",
-    }
-}
-
 /// Writes the lines of a bucket.
 #[tactic(auto, using(crate::proofs::Joins::six), unfolding(crate::specs::Canonical::bucket_lines))]
 fn write_bucket(
@@ -172,7 +163,7 @@ fn write_bucket(
     let id = format!(in alloc; "{}", bucket.id.0)?;
     write_line(out, kind.as_bytes(), &[name.as_bytes(), "{".as_bytes()])?;
     write_inner_line(out, b"id", &[id.as_bytes()])?;
-    write_inner_line(out, b"alg", &[alg_text(bucket.alg).as_bytes()])?;
+    write_inner_line(out, b"alg", &[bucket.alg.name().as_bytes()])?;
     write_inner_line(out, b"hash", &["0".as_bytes()])?;
     write_items(alloc, out, names, bucket.items.as_slice())?;
     write_line(out, b"}", &[])
@@ -313,6 +304,27 @@ fn write_rules(alloc: Global, out: &mut Vec<u8>, names: &Names<'_>) -> Result<()
     Ok(())
 }
 
+/// Returns whether a bucket is straw2.
+fn has_straw2(buckets: &[Bucket]) -> bool
+    ensures { result ≡ list_any (λ b. is_straw2 b.alg) buckets.now }
+{
+    buckets.iter().any(|bucket| bucket.alg.is_straw2())
+}
+
+/// Begins the text of a map: with the mark by which a text asks for straw2, if a bucket needs it,
+/// and the first heading.
+#[tactic(auto, unfolding(crate::specs::Canonical::mark_line))]
+fn begin_map(alloc: Global, names: &Names<'_>) -> Result<Vec<u8>, AllocError>
+    ensures { IfOk result (λ out. out.items ≡ spec.mark_line names.now ++ codes "# begin crush map\n") }
+{
+    let mut out = Vec::new(alloc);
+    if has_straw2(names.buckets) {
+        write_line(&mut out, straw2_mark().as_bytes(), &[])?;
+    }
+    out.extend_from_slice(b"# begin crush map\n")?;
+    Ok(out)
+}
+
 /// Writes the canonical text of a map.
 ///
 /// `Err(AllocError)`: an allocation failed; nothing is changed.
@@ -322,8 +334,7 @@ pub fn write_map(alloc: Global, map: &CrushMap) -> Result<Vec<u8>, AllocError>
     ensures valid { IsMap map.now }
 {
     let names = Names::new(alloc, map)?;
-    let mut out = Vec::new(alloc);
-    out.extend_from_slice(b"# begin crush map\n")?;
+    let mut out = begin_map(alloc, &names)?;
     write_tunables(alloc, &mut out, names.tunables)?;
     out.extend_from_slice(b"\n# devices\n")?;
     write_devices(alloc, &mut out, names.devices)?;

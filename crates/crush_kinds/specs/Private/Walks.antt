@@ -1,11 +1,12 @@
 -- Walks down trees, side by side.
-use Rattle.std.specs.Prelude.{◌≡◌, ℕ, suc, ◌+◌, ◌≤◌, ◌^◌, length, min}
+use Rattle.std.specs.Prelude.{◌≡◌, ℕ, suc, ◌+◌, ◌<◌, ◌≤◌, ◌^◌, List, length, min}
 use Rattle.crush_hash.specs.Hash.{hash4}
 use Rattle.crush_types.specs.declared.ItemId.{ItemId}
+use Rattle.crush_types.specs.declared.Kind.TheVariants.{Tree}
 use Rattle.crush_kinds.specs.Bucket.{BucketView, word}
 use Rattle.crush_kinds.specs.Eight.{IsPickedBy}
 use Rattle.crush_kinds.specs.Kinds.{height_of}
-use Rattle.crush_kinds.specs.Private.Kept.{AtNode}
+use Rattle.crush_kinds.specs.Private.Kept.{AtNode, HasNodes}
 
 -- the height of a bucket's tree
 abbrev pub tree_height : BucketView → ℕ
@@ -33,3 +34,12 @@ GoesOn b left node hash to =
 -- each walk that ends at the leaf picks the item
 abbrev pub IsPickAt : BucketView → ℕ → ItemId → Type 0
 IsPickAt b leaf item = (x r : ℕ) → IsOnWay b x r 0 leaf → IsPickedBy b x r item
+
+-- what walks need of a tree bucket that has an item, and of what its tree has
+pub record Keeps (b : BucketView) (height : ℕ) (nodes : List ℕ) : Type 0 where
+  pub tree : b.kind ≡ Tree
+  pub some : 0 < length b.items
+  pub height_is : height ≡ tree_height b
+  pub low : tree_height b < 17
+  pub size : length nodes ≡ 2 ^ suc (tree_height b)
+  pub weights : HasNodes b.items nodes 0 (tree_height b)

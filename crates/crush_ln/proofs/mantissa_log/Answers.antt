@@ -11,7 +11,7 @@ overflow_mul-rest c =
 small_sum : (c : goal.After-rest_log) → c.log_at.result + c.rest_log.result ≤ 2 ^ 49
 small_sum c =
     let a : c.log_at.result ≤ 2 ^ 48 = rw c.log_at.ensures (small_log (c.args.mantissa / 256 - 128) (omega arith)) in
-    let b : c.rest_log.result ≤ 2 ^ 48 = rw c.rest_log.ensures (small_rest (c.from.result * c.reciprocal.result / 281474976710656 % 256) (omega arith)) in
+    let b : c.rest_log.result ≤ 2 ^ 48 = rw c.rest_log.ensures (small_rest (c.from.result * c.reciprocal.result / 2 ^ 48 % 256) (omega arith)) in
     omega (arith, a, b)
 
 pub overflow_add-result : goal.overflow_add-result

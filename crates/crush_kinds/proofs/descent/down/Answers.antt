@@ -1,4 +1,4 @@
-use Rattle.std.proofs.Common.{◌≡◌, ℕ, ◌<◌, refl, ap, arith, ◌∙◌}
+use Rattle.std.proofs.Common.{ℕ, refl, ap, arith, ◌∙◌}
 use Rattle.crush_kinds.proofs.Nodes.{quarters, eighths}
 use Rattle.crush_kinds.proofs.Lanes.{AreHashes, two_down, three_down}
 use Rattle.crush_kinds.proofs.descent.down.Goals as goal

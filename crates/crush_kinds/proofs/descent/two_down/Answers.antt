@@ -1,4 +1,4 @@
-use Rattle.std.proofs.Common.{◌≡◌, ℕ, zero, suc, ◌<◌, ◌-◌, ◌+◌, [], ◌∷◌, slice_index, refl, arith, ◌∙◌}
+use Rattle.std.proofs.Common.{◌≡◌, ℕ, ◌<◌, ◌-◌, ◌+◌, [], ◌∷◌, slice_index, refl, arith, ◌∙◌}
 use Rattle.crush_kinds.proofs.Lanes.{AreThree, below_four, last_two}
 use Rattle.crush_kinds.proofs.descent.two_down.Goals as goal
 

@@ -6,5 +6,5 @@ use Rattle.crush_kinds.proofs.list.list_place.Goals as goal
 pub returns-clause-within : goal.returns-clause-within
 returns-clause-within c =
     let size = length c.args.items.now in
-    let below = or_below (takes c.args.id c.args.items.now c.args.x c.args.r) (size % 8) size c.requires.asked.some (omega arith) in
+    let below = or_below (takes c.args.id c.args.items.now c.args.x c.args.r) (size % 8) size c.requires.some (omega arith) in
     omega (arith, below, c.last_of_rest.ensures)

@@ -1,6 +1,0 @@
-use Rattle.std.proofs.Common.{sym}
-use Rattle.std.proofs.Math.Nat.{mod-eq_of_lt}
-use Rattle.crush_kinds.proofs.uniform.asked_place.Goals as goal
-
-pub returns-then-r-size : goal.returns-then-r-size
-returns-then-r-size c = sym (mod-eq_of_lt c.if-r-size.true)

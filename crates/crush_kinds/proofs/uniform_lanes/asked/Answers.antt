@@ -11,11 +11,11 @@ loop-lane-preserved c =
     let buckets = c.args.buckets.now in
     let bucket = c.index-buckets-lane.result in
     let own : IsAsked (slice_index_or buckets l.lane bucket).now c.args.place c.args.r c.id.result c.size.result = record {
-      uniform = c.asked_place.ensures.kind;
+      uniform = c.in_ok-asked.ensures.uniform;
       of_id = c.id.ensures;
       of_size = c.size.ensures.value;
-      at = omega (arith, c.asked_place.ensures.value);
-      within = omega (arith, c.asked_place.ensures.within, c.size.ensures.value);
+      at = omega (arith, c.in_ok-asked.ensures.at);
+      within = omega (arith, c.in_ok-asked.ensures.within, c.size.ensures.value);
     } in
     record {
       ids = length-set l.ids l.lane c.id.result ∙ l.invariant.ids;

@@ -26,7 +26,7 @@ items_of-requires c lane d low =
 
 pub returns : goal.returns
 returns c lane d low =
-    let place = c.asked_place-place.result in
+    let place = c.in_ok-place.place in
     let members = c.eight_members-members.result in
     let items = c.items_of.result in
     let asked = c.in_ok-ids.ensures lane d low in

@@ -31,20 +31,20 @@ loop-lane-preserved c =
       words_size = length-set l.words l.lane c.word.result ∙ l.invariant.words_size;
       roots_size = length-set l.roots l.lane c.root.result ∙ l.invariant.roots_size;
       words = λ n d low. (
-          let here : c.word.result ≡ word (slice_index_or trees l.lane d).now.id = c.word.ensures ∙ (ap word c.id.ensures ∙ ap (λ t. word t.now.id) (at d)) in
-          more_set (λ (n word_at : ℕ). word_at ≡ word (slice_index_or trees n d).now.id) l.words l.lane c.word.result 0 (omega (arith, l.invariant.words_size)) (λ n before. l.invariant.words n d before) here n low);
+          let here : c.word.result ≡ word (slice_index_or trees l.lane d).id = c.word.ensures ∙ (ap word c.id.ensures ∙ ap (λ t. word t.id) (at d)) in
+          more_set (λ (n word_at : ℕ). word_at ≡ word (slice_index_or trees n d).id) l.words l.lane c.word.result 0 (omega (arith, l.invariant.words_size)) (λ n before. l.invariant.words n d before) here n low);
       roots = λ n d low. (
-          let here : c.root.result ≡ 2 ^ tree_height (slice_index_or trees l.lane d).now = c.root.ensures ∙ ap (λ t. 2 ^ tree_height t.now) (at d) in
-          more_set (λ (n root : ℕ). root ≡ 2 ^ tree_height (slice_index_or trees n d).now) l.roots l.lane c.root.result 0 (omega (arith, l.invariant.roots_size)) (λ n before. l.invariant.roots n d before) here n low);
+          let here : c.root.result ≡ 2 ^ tree_height (slice_index_or trees l.lane d) = c.root.ensures ∙ ap (λ t. 2 ^ tree_height t) (at d) in
+          more_set (λ (n root : ℕ). root ≡ 2 ^ tree_height (slice_index_or trees n d)) l.roots l.lane c.root.result 0 (omega (arith, l.invariant.roots_size)) (λ n before. l.invariant.roots n d before) here n low);
       high = λ n d low. (
           let le : n ≤ l.lane = omega arith in elim (eq-or-lt_of_le le) [
             | inl same ↦ (
-                let here : tree_height (slice_index_or trees l.lane d).now ≡ c.height.result = ap (λ t. tree_height t.now) (sym (at d)) ∙ sym c.height.ensures in
-                let more : tree_height (slice_index_or trees l.lane d).now ≤ c.max-highest.result = omega (arith, here, top, greater) in
+                let here : tree_height (slice_index_or trees l.lane d) ≡ c.height.result = ap (λ t. tree_height t) (sym (at d)) ∙ sym c.height.ensures in
+                let more : tree_height (slice_index_or trees l.lane d) ≤ c.max-highest.result = omega (arith, here, top, greater) in
                 rw same more)
             | inr lower ↦ (
                 let before = l.invariant.high n d lower in
-                let more : tree_height (slice_index_or trees n d).now ≤ c.max-highest.result = omega (arith, before, top, greater) in
+                let more : tree_height (slice_index_or trees n d) ≤ c.max-highest.result = omega (arith, before, top, greater) in
                 more)
           ]);
     }
@@ -52,7 +52,7 @@ loop-lane-preserved c =
 pub returns-clause-roots : goal.returns-clause-roots
 returns-clause-roots c lane d x r low =
     let l = c.loop-lane in
-    let b = (slice_index_or c.args.trees.now lane d).now in
+    let b = (slice_index_or c.args.trees.now lane d) in
     let high : tree_height b ≤ l.highest = l.invariant.high lane d (omega arith) in
     let root : slice_index l.roots lane ≡ 2 ^ tree_height b = l.invariant.roots lane d (omega arith) in
     subst (λ (n : ℕ). IsOnWay b x r l.highest n) (sym root) (way_begins b x r l.highest high)

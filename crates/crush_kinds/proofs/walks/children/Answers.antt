@@ -14,8 +14,8 @@ loop-lane-preserved c =
       size = length-set l.below l.lane c.child.result ∙ l.invariant.size;
       goes = λ n d low. (
           let tree : slice_index_or trees l.lane c.index-trees-lane.result ≡ slice_index_or trees l.lane d = get_or_default trees l.lane c.index-trees-lane.result d (omega arith) in
-          let here : goes l.lane (slice_index_or trees l.lane d).now c.child.result = subst (λ t. goes l.lane t.now c.child.result) tree c.child.ensures in
-          more_set (λ (n to : ℕ). goes n (slice_index_or trees n d).now to) l.below l.lane c.child.result 0 (omega (arith, l.invariant.size)) (λ n before. l.invariant.goes n d before) here n low);
+          let here : goes l.lane (slice_index_or trees l.lane d) c.child.result = subst (λ t. goes l.lane t c.child.result) tree c.child.ensures in
+          more_set (λ (n to : ℕ). goes n (slice_index_or trees n d) to) l.below l.lane c.child.result 0 (omega (arith, l.invariant.size)) (λ n before. l.invariant.goes n d before) here n low);
     }
 
 pub returns : goal.returns

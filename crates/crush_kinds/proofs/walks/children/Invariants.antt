@@ -5,5 +5,5 @@ use Rattle.crush_kinds.proofs.walks.children.Given as goal
 abbrev pub invariant-loop-lane : goal.invariant-loop-lane
 invariant-loop-lane l = record {
   size : length l.below ≡ 8;
-  goes : (n : ℕ) (d : _) → n < l.lane → GoesOn (slice_index_or l.fn.trees n d).now l.fn.left (slice_index l.fn.nodes n) (slice_index l.fn.hashes n) (slice_index l.below n);
+  goes : (n : ℕ) (d : _) → n < l.lane → GoesOn (slice_index_or l.fn.trees n d) l.fn.left (slice_index l.fn.nodes n) (slice_index l.fn.hashes n) (slice_index l.below n);
 }

@@ -16,8 +16,8 @@ loop-lane-preserved c =
       size = length-set l.items l.lane c.item_at.result ∙ l.invariant.size;
       picks = λ n d low. (
           let tree : slice_index_or trees l.lane c.index-trees-lane.result ≡ slice_index_or trees l.lane d = get_or_default trees l.lane c.index-trees-lane.result d (omega arith) in
-          let here : picks l.lane (slice_index_or trees l.lane d).now c.item_at.result = subst (λ t. picks l.lane t.now c.item_at.result) tree c.item_at.ensures in
-          more_set (λ (n : ℕ) (item : ItemId). picks n (slice_index_or trees n d).now item) l.items l.lane c.item_at.result no_id (omega (arith, l.invariant.size)) (λ n before. l.invariant.picks n d before) here n low);
+          let here : picks l.lane (slice_index_or trees l.lane d) c.item_at.result = subst (λ t. picks l.lane t c.item_at.result) tree c.item_at.ensures in
+          more_set (λ (n : ℕ) (item : ItemId). picks n (slice_index_or trees n d) item) l.items l.lane c.item_at.result no_id (omega (arith, l.invariant.size)) (λ n before. l.invariant.picks n d before) here n low);
     }
 
 pub returns : goal.returns

@@ -6,5 +6,5 @@ use Rattle.crush_kinds.proofs.walks.items_at.Given as goal
 abbrev pub invariant-loop-lane : goal.invariant-loop-lane
 invariant-loop-lane l = record {
   size : length l.items ≡ 8;
-  picks : (n : ℕ) (d : _) → n < l.lane → IsPickAt (slice_index_or l.fn.trees n d).now (slice_index l.fn.leaves n) (slice_index_or l.items n no_id);
+  picks : (n : ℕ) (d : _) → n < l.lane → IsPickAt (slice_index_or l.fn.trees n d) (slice_index l.fn.leaves n) (slice_index_or l.items n no_id);
 }

@@ -1,40 +1,29 @@
-use Rattle.std.proofs.Common.{◌≡◌, ℕ, ◌+◌, ◌-◌, slice_index, slice_index_or, [], ◌∷◌, refl, ap, subst, ◌∙◌, arith}
-use Rattle.crush_hash.specs.Hash.{hash4}
-use Rattle.crush_kinds.specs.Bucket.{word}
-use Rattle.crush_kinds.specs.Private.Walks.{IsOnWay}
+use Rattle.std.proofs.Common.{◌≡◌, ℕ, ◌<◌, List, [], ◌∷◌, length, slice_index, slice_index_or, Bor, ap, subst, ◌∙◌, arith}
+use Rattle.std.proofs.lemmas.List.{get_or_default}
+use Rattle.crush_kinds.specs.declared.any.AnyBucket.{AnyBucket}
+use Rattle.crush_kinds.specs.Bucket.{BucketView}
+use Rattle.crush_kinds.specs.Eight.{IsPickedBy}
+use Rattle.crush_permutation.specs.Permutation.{no_id}
 use Rattle.crush_permutation.proofs.Lanes.{below_eight}
-use Rattle.crush_kinds.proofs.Ways.{way_node}
 use Rattle.crush_kinds.proofs.walks.pick_trees.Goals as goal
 
-pub loop-left-init : goal.loop-left-init
-loop-left-init c lane d low = c.begin-highest.ensures.roots lane d (slice_index c.args.xs.now lane) c.args.r low
-
-pub children-nodes-requires : goal.children-nodes-requires
-children-nodes-requires c lane d low =
-    let l = c.loop-left in
-    let b = (slice_index_or c.args.trees.now lane d).now in
-    let x = slice_index c.args.xs.now lane in
-    let left : l.left ≡ l.left - 1 + 1 = omega arith in
-    way_node b x c.args.r (l.left - 1 + 1) (slice_index l.nodes lane) (subst (λ (n : ℕ). IsOnWay b x c.args.r n (slice_index l.nodes lane)) left (l.invariant lane d low))
-
-pub loop-left-preserved : goal.loop-left-preserved
-loop-left-preserved c lane d low =
-    let l = c.loop-left in
-    let b = (slice_index_or c.args.trees.now lane d).now in
-    let x = slice_index c.args.xs.now lane in
-    let r = c.args.r in
-    let node = slice_index l.nodes lane in
-    let left : l.left ≡ l.left - 1 + 1 = omega arith in
-    let way : IsOnWay b x r (l.left - 1 + 1) node = subst (λ (n : ℕ). IsOnWay b x r n node) left (l.invariant lane d low) in
-    let rs = r ∷ r ∷ r ∷ r ∷ r ∷ r ∷ r ∷ r ∷ [] in
-    let at_r : slice_index rs lane ≡ r = below_eight (λ (lane : ℕ). slice_index rs lane ≡ r) refl refl refl refl refl refl refl refl lane low in
-    let hash : slice_index c.hash4_each-hashes.result lane ≡ hash4 x node r (word b.id) = c.hash4_each-hashes.ensures lane low ∙ (ap (λ (k : ℕ). hash4 x node k (slice_index c.begin-highest.result.0 lane)) at_r ∙ ap (λ (id : ℕ). hash4 x node r id) (c.begin-highest.ensures.words lane d low)) in
-    c.children-nodes.ensures lane d low x r way hash
+-- a tree is the bucket from which it was taken
+here : (buckets : List (Bor AnyBucket)) (n : ℕ) (found d : Bor AnyBucket) (tree : BucketView) → n < length buckets → tree ≡ (slice_index_or buckets n found).now → tree ≡ (slice_index_or buckets n d).now
+here buckets n found d tree within is =
+    is ∙ ap (λ (b : Bor AnyBucket). b.now) (get_or_default buckets n found d within)
 
 pub returns : goal.returns
 returns c lane d low =
-    let l = c.loop-left in
-    let b = (slice_index_or c.args.trees.now lane d).now in
-    let x = slice_index c.args.xs.now lane in
-    let end : l.left ≡ 0 = omega arith in
-    c.items_at.ensures lane d low x c.args.r (subst (λ (n : ℕ). IsOnWay b x c.args.r n (slice_index l.nodes lane)) end (l.invariant lane d low))
+    let buckets = c.args.buckets.now in
+    let first = c.in_ok-tree.field-0 in
+    let trees : List BucketView = c.in_ok-tree.field-0 ∷ c.in_ok-tree-2.field-0 ∷ c.in_ok-tree-3.field-0 ∷ c.in_ok-tree-4.field-0 ∷ c.in_ok-tree-5.field-0 ∷ c.in_ok-tree-6.field-0 ∷ c.in_ok-tree-7.field-0 ∷ c.in_ok-tree-8.field-0 ∷ [] in
+    let are = below_eight (λ (n : ℕ). slice_index_or trees n first ≡ (slice_index_or buckets n d).now)
+    (here buckets 0 c.index-buckets-0.result d c.in_ok-tree.field-0 (omega arith) c.in_ok-tree.ensures)
+    (here buckets 1 c.index-buckets-1.result d c.in_ok-tree-2.field-0 (omega arith) c.in_ok-tree-2.ensures)
+    (here buckets 2 c.index-buckets-2.result d c.in_ok-tree-3.field-0 (omega arith) c.in_ok-tree-3.ensures)
+    (here buckets 3 c.index-buckets-3.result d c.in_ok-tree-4.field-0 (omega arith) c.in_ok-tree-4.ensures)
+    (here buckets 4 c.index-buckets-4.result d c.in_ok-tree-5.field-0 (omega arith) c.in_ok-tree-5.ensures)
+    (here buckets 5 c.index-buckets-5.result d c.in_ok-tree-6.field-0 (omega arith) c.in_ok-tree-6.ensures)
+    (here buckets 6 c.index-buckets-6.result d c.in_ok-tree-7.field-0 (omega arith) c.in_ok-tree-7.ensures)
+    (here buckets 7 c.index-buckets-7.result d c.in_ok-tree-8.field-0 (omega arith) c.in_ok-tree-8.ensures) in
+    subst (λ (b : BucketView). IsPickedBy b (slice_index c.args.xs.now lane) c.args.r (slice_index_or c.walk_down.result lane no_id)) (are lane low) (c.walk_down.ensures lane first low)
