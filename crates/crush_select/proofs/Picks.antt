@@ -3,10 +3,8 @@ use Rattle.std.proofs.Common.{◌≡◌, ℕ, ◌&&◌, ◌||◌, cond, nat_lt, 
 use Rattle.std.specs.List.{list_any, filter}
 use Rattle.std.proofs.lemmas.Bool.Decides.{nat_tests}
 use Rattle.crush_types.specs.declared.Kind.{Kind}
-use Rattle.crush_types.specs.declared.Kind.TheVariants.{Uniform, List as ListKind, Tree}
 use Rattle.crush_kinds.specs.Bucket.{BucketView, WeightedItem}
-use Rattle.crush_kinds.specs.Pickable.{weighs, pickable_as, pickable}
-use Rattle.crush_select.specs.Private.Reachable.{picks_by_weight}
+use Rattle.crush_kinds.specs.Pickable.{weighs, picks_by_weight, pickable_as, pickable}
 
 -- an item weighs at least 1 where it weighs something, and each weighs at least 0
 one_weighs : (n : ℕ) → nat_le 1 n ≡ nat_lt 0 n
@@ -21,9 +19,7 @@ any_filtered p (e ∷ items) =
     ])
 
 by_weight : (kind : Kind) (items : List WeightedItem) → picks_by_weight kind items ≡ true → pickable_as kind items ≡ filter weighs items
-by_weight Uniform items some = cc
-by_weight ListKind items some = rw some refl
-by_weight Tree items some = rw some refl
+by_weight kind items some = rw some refl
 
 pub any_by_weight : (p : WeightedItem → Bool) (b : BucketView) → picks_by_weight b.kind b.items ≡ true → list_any (λ e. nat_le 1 e.1.0 && p e) b.items ≡ list_any p (pickable b)
 any_by_weight p b some = any_filtered p b.items ∙ ap (λ (items : List WeightedItem). list_any p items) (sym (by_weight b.kind b.items some))

@@ -1,7 +1,8 @@
 use Rattle.std.proofs.Common.{◌≡◌, ◌∙◌, sym, true}
 use Rattle.crush_kinds.specs.Bucket.{WeightedItem}
+use Rattle.crush_kinds.specs.Pickable.{picks_by_weight}
 use Rattle.crush_bucket.specs.Tables.{bucket_at, bucket_numbered}
-use Rattle.crush_select.specs.Private.Reachable.{can_be_placed, can_end_at, marked, picks_by_weight}
+use Rattle.crush_select.specs.Private.Reachable.{can_be_placed, can_end_at, marked}
 use Rattle.crush_select.proofs.Picks.{any_by_weight}
 use Rattle.crush_select.proofs.reachable.Aim.can_end_below.Goals as goal
 
