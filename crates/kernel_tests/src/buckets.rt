@@ -214,8 +214,8 @@ fn buckets_answer_the_worked_rows(rt: HostRuntime) {
     assert_rows(&rt, rt.alloc(), &light, &many);
 }
 
-/// Asserts that straw2 buckets of two ids pick for the inputs 0, 1, .. at the attempt 0 what they are
-/// said to.
+/// Asserts that straw2 buckets of two ids pick the expected items for the inputs 0, 1, .. at the
+/// attempt 0.
 fn assert_firsts(rt: &impl Abort, alloc: Global, items: &[(i32, u32)], expected: &[i32; 16]) {
     let entries = entries(alloc, items).expect(rt, "error");
     let mut questions = Vec::new(alloc);

@@ -20,8 +20,7 @@ fn fault(alloc: Global, text: &str) -> Result<Option<(usize, TextCode)>, Fail> {
     fault_of(alloc, text.as_bytes())
 }
 
-/// Makes a text of a first line, with what ends it, and the small map with `alg` as its line of that
-/// kind.
+/// Makes a text of a first line, with what ends it, and the small map with `alg` as its line 13.
 fn below(alloc: Global, first: &str, alg: &str) -> Result<String, AllocError> {
     let mut text = String::new(alloc);
     text.push_str(first)?;
