@@ -9,7 +9,8 @@ use Rattle.crush_types.specs.declared.ItemId.{ItemId}
 use Rattle.crush_map.specs.declared.draft.Bucket.{Bucket}
 use Rattle.crush_map.specs.Map.{Map}
 use Rattle.crush_map.specs.Sound.{IsEachOnce}
-use Rattle.crush_bucket.specs.Tables.{TypedBucket, tables_of, typed_bucket, no_bucket, bucket_at, type_at, bucket_numbered}
+use Rattle.crush_bucket.specs.declared.typed.TypedBucket.{TypedBucket}
+use Rattle.crush_bucket.specs.Tables.{tables_of, typed_bucket, no_bucket, bucket_at, type_at, bucket_numbered}
 use Rattle.crush_bucket.proofs.Numbered.{has_that_id, position_some, same_id}
 use Rattle.crush_bucket.proofs.Validity.{HasSoundBuckets}
 
