@@ -1,11 +1,13 @@
 /* usage: ceph_straws <LINES
 
-   Bounds logarithms of draws by decisions of Ceph's own crush_do_rule. Each line is `DRAW DELAY YARD OTHER`: a draw with its
-   delay, as it is said to be, and another draw with its own, by which the first is measured. Of two straws Ceph takes the
-   first where floor(delay / weight) is no greater than floor(other delay / other weight). The program finds weights by which
-   that says that the delay is below a number, as close above it as there is one, and weights by which it says that it isn't
-   below a number as close below it; it asks Ceph both, with devices that have these draws, and writes `DRAW LEAST PAST`:
-   LEAST <= delay < PAST. Where Ceph decides otherwise it writes `DRAW no`. */
+   Bounds logarithms of draws by decisions of Ceph's own crush_do_rule. Each line is
+   `DRAW DELAY YARD OTHER`: a draw with its delay, as it is said to be, and another draw with its
+   own, by which the first is measured. Of two straws Ceph takes the first where
+   floor(delay / weight) is no greater than floor(other delay / other weight). The program finds
+   weights by which that says that the delay is below a number close above it, and weights by which
+   it says that the delay isn't below a number close below it; it asks Ceph both, with devices that
+   have these draws, and writes `DRAW LEAST PAST`: LEAST <= delay < PAST. Where Ceph decides
+   otherwise it writes `DRAW no`. */
 #include "../../bench/ceph_crush.h"
 
 enum { GREATEST = 0x7fffffff, TRIED = 16384, DRAWS = 65536, DEVICES = 1 << 21, INPUT = 0 };
@@ -35,8 +37,9 @@ static uint64_t weight_for(uint64_t yard, uint64_t quotient) {
   return 0 < weight && weight <= GREATEST && yard / weight == quotient ? weight : 0;
 }
 
-/* With a weight w of the item and a quotient q of the other, Ceph takes the item where delay < (q + 1) * w. Of the products
-   up to `limit` (from it on, where above) the nearest; its factors are put into the pair. */
+/* With a weight w of the item and a quotient q of the other, Ceph takes the item where
+   delay < (q + 1) * w. Of such products up to `limit` (from it on, where above) the nearest, and
+   the weights that give it. */
 static uint64_t nearest(uint64_t limit, int above, uint64_t yard, uint64_t *weight, uint64_t *other) {
   uint64_t best = 0, first = (limit > yard ? limit : yard) / GREATEST + 2;
   for (uint64_t factor = first; factor < first + TRIED; factor++) {

@@ -270,8 +270,8 @@ def straw2():
     yield map_.rule("take -1", leaves("firstn"), "emit", "take -5", chosen("indep", 2, "osd"), "emit", sizes=(1, 3))
     map_ = tree_of(Map("straw2_little_weighs"), kinds, weight=lambda d: int(d % 3 == 2), host_weight=lambda r, h: int(h != r))
     yield map_.rule("take -1", leaves("firstn"), "emit", "take -1", leaves("indep"), "emit", sizes=(1, 3, 5))
-    # weights above 856.4, by which different logarithms give the same quotient; crushtool takes none
-    # above 100.0 of a device
+    # weights above 856.4, by which different logarithms may give the same quotient; crushtool takes
+    # none above 100.0 of a device
     map_ = tree_of(Map("straw2_of_great_weights"), kinds, racks=3, hosts=3, host_weight=lambda r, h: (900 * ONE, 5_000 * ONE, 1_000 * ONE)[h])
     yield map_.rule("take -1", leaves("firstn"), "emit", "take -1", chosen("firstn", 0, "rack"), "emit", sizes=(1, 3, 6))
     map_ = hosts_of(Map("straw2_of_equal_great_weights"), ("list", "straw2"), hosts=12, devices=2)

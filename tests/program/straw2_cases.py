@@ -1,5 +1,5 @@
-"""Requests on maps of straw2 buckets, and texts that ask for them or don't, each with the reply that the
-format's rules give it. Answers stand here as they were worked out, or come from model/."""
+"""Requests on maps of straw2 buckets, and texts that ask for them or don't, each with the reply
+that the format's rules give it. Answers stand here as crushtool has them, or come from model/."""
 import random
 
 from model import choosing, crush, map_text
@@ -76,7 +76,8 @@ def short_texts():
 
 
 def of_tests(texts, asked, start=START):
-    """Each text is imported, with tests of the size and input (and the first item that is known)."""
+    """Imports of texts, each with tests of its rule: pairs of size and input, and of the items and
+    trace."""
     rows = list(start)
     for number, (text, pairs) in enumerate(zip(texts, asked), 1):
         rows.append((import_of(text, f"m{number}"), imported(number, number)))
@@ -161,9 +162,9 @@ def picks_by_request():
 
 
 def worked_rows():
-    """What crushtool answers too: three devices of 1.0, and with 2.0 for the second, by several ids of
-    the bucket; none that weighs, and one that does; the two greatest draws; two lacks that are equal;
-    the greatest weights."""
+    """What crushtool answers too: three devices of 1.0, by two ids of the bucket, and with 2.0 for
+    the second; none that weighs something, and one that does; the two greatest draws; two lacks
+    that are equal; the greatest weights."""
     even, raised = straw2_of([(it, "1.0") for it in range(3)]), straw2_of([(0, "1.0"), (1, "2.0"), (2, "1.0")])
     first = firsts((0, 0, 1, 0, 1, 0, 2, 1, 2, 2, 0, 0, 0, 0, 1, 1))
     second = firsts((0, 0, 1, 0, 1, 1, 2, 1, 2, 2, 0, 1, 1, 0, 1, 1))
@@ -192,7 +193,8 @@ def of_weights(maps):
 
 
 def sizes():
-    """Buckets of 1 to 40 items: of one weight, and with a last item that is nearly always picked."""
+    """Buckets of 1 to 40 items: of one weight, and with a last item that is nearly always
+    picked."""
     asked = [(1, x) for x in range(12)]
     even = [([(it, ONE) for it in range(size)], [*asked, (min(size, 5), 5)]) for size in range(1, 41)]
     last = [([*((it, ONE) for it in range(size)), (size, 64 * size * ONE)], asked) for size in range(40)]
@@ -213,8 +215,9 @@ TWELVE = [(it, ONE * (1 + it % 4)) for it in range(12)]
 
 
 def equal_lacks():
-    """Inputs at which the least lack is that of two items: the first of them is picked. The items weigh
-    little, so that their draws give equal logarithms, or much, so that quotients are equal too."""
+    """Inputs at which the least lack is that of two items: the first of them is picked. The items
+    weigh little, so that their draws give equal logarithms, or much, so that quotients are equal
+    too."""
     return of_weights([
         ([(it, ONE) for it in range(12)], [(1, x) for x in (6816, 9502, 11272, 11311, 11504)]),
         (TWELVE, [(1, x) for x in (9502, 11272, 11504)]),
@@ -225,7 +228,7 @@ def equal_lacks():
 
 
 def great_weights():
-    """Weights by which different logarithms give equal lacks: the first of them is picked at each input
+    """Weights by which different logarithms give equal lacks: the first is picked at each input
     that isn't small, though another's logarithm is greater. And weights at both sides of 2^30."""
     few = [(1, x) for x in range(20)]
     return of_weights([

@@ -5,10 +5,12 @@ import re
 
 from .crush_map import MSR, ONE, TUNABLES, Bucket, CrushMap, Rule, WeightSet
 from .faults import Fault
+from .sets import ALL
 from .shadows import rebuilt
 
 WORD = re.compile(r"[{}\[\]]|[^\s{}\[\]]+")
 INTEGER = re.compile(r"-?\d{1,10}")
+UNSIGNED_ALL = str(2**64 - 1)  # the key of the weight set of all pools, as crushtool writes it
 WEIGHT = re.compile(r"\d{1,10}(\.\d{1,20})?")
 
 
@@ -210,7 +212,9 @@ def read_step(words, ids):
 
 def read_weight_set(words, map_):
     """Reads the rows of a weight set: of each bucket its weights for each position, and other ids."""
-    key, own = words.number(), WeightSet({})
+    key, own = (ALL if words.peek() == UNSIGNED_ALL else words.number()), WeightSet({})
+    if key == ALL and words.peek() != "{":
+        words.next()
     words.next("{")
     while words.peek() == "{":
         words.next("{")

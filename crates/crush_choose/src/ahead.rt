@@ -7,8 +7,8 @@ ghost use Rattle.std.specs.Prelude.{◌≡◌};
 ghost use Rattle.crush_bucket.specs.Tables.{scratch_of};
 
 use crate::rule::reps;
-use crush_bucket::{BucketNo, LANES, Scratch, Tables};
-use crush_map::{ItemId, Kind, Rule, Step};
+use crush_bucket::{BucketNo, LANES, Scratch, Tables, is_side_by_side};
+use crush_map::{ItemId, Rule, Step};
 
 /// For how many reps of a choose step picks are made ahead.
 const REP_LIMIT: u32 = 12;
@@ -110,13 +110,13 @@ fn choose_ahead(tables: &Tables, scratch: &mut Scratch, guess: &Guess, bucket: B
     }
 }
 
-/// Returns whether something can be picked ahead for a rule: one of its first buckets is a tree or
-/// uniform.
+/// Returns whether something can be picked ahead for a rule: one of its first buckets is of a kind
+/// that picks side by side.
 pub fn can_look_ahead(tables: &Tables, rule: &Rule) -> bool {
     for step in rule.steps.as_slice() {
         if let Step::Take(item) = *step {
             if let Some(bucket) = tables.bucket_of(item) {
-                if tables.kind(bucket) != Kind::List {
+                if is_side_by_side(tables.kind(bucket)) {
                     return true;
                 }
             }

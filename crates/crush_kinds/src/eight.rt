@@ -9,7 +9,8 @@ use crate::uniform_lanes::pick_uniforms;
 use crate::walks::pick_trees;
 use crush_types::{ItemId, Kind};
 
-/// Returns whether buckets of the kind `kind` can pick side by side.
+/// Returns whether it is worth asking buckets of the kind `kind` to pick side by side. It changes
+/// no answer.
 pub fn is_side_by_side(kind: Kind) -> bool {
     match kind {
         Kind::Uniform | Kind::Tree => true,
@@ -20,11 +21,7 @@ pub fn is_side_by_side(kind: Kind) -> bool {
 /// Picks the items of eight buckets for eight inputs and one attempt, in their order, where all
 /// have items, and all are trees, or all are uniform and asked for the same of their first four
 /// places. `None`: the buckets are others. Allocates nothing.
-pub fn pick_side_by_side(
-    buckets: &[&AnyBucket; 8],
-    xs: &[u32; 8],
-    r: u32,
-) -> Option<[ItemId; 8]>
+pub fn pick_side_by_side(buckets: &[&AnyBucket; 8], xs: &[u32; 8], r: u32) -> Option<[ItemId; 8]>
     ensures { IfSome result (λ items. (lane : ℕ) (d : _) → lane < 8 → IsPickedBy (slice_index_or buckets.now lane d).now (slice_index xs.now lane) r (slice_index_or items lane no_id)) }
 {
     match buckets[0].kind() {

@@ -6,6 +6,7 @@
 #![tactic(auto)]
 
 mod any;
+mod by_weight;
 mod descent;
 mod eight;
 pub mod laws;
@@ -23,6 +24,7 @@ mod uniform_lanes;
 mod walks;
 
 pub use any::AnyBucket;
+pub use by_weight::{picks_by_weight, without_weights};
 pub use crush_permutation::Perm;
 pub use eight::{is_side_by_side, pick_side_by_side};
 pub use of_kind::{ListBucket, Straw2Bucket, TreeBucket, UniformBucket};

@@ -111,8 +111,8 @@ impl<'a> TreeRef<'a> {
     pub(crate) fn item_at(&self, leaf: u32) -> ItemId
         ensures { IsPickAt self.now leaf result }
     {
-        let place = leaf as usize / 2;
-        self.bucket.item(place.min(self.bucket.size() - 1))
+        self.bucket
+            .item((leaf as usize / 2).min(self.bucket.size() - 1))
     }
 
     /// Finds the place at which the walk from the root ends.

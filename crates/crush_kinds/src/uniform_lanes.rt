@@ -18,11 +18,7 @@ const EARLY_PLACES: usize = 4;
 /// Picks the items of eight buckets for eight inputs and one attempt, in their order. `None`: one
 /// of them isn't uniform, or has no items, or the attempt asks for another place of it than of the
 /// first, or for a late place. Allocates nothing.
-pub(crate) fn pick_uniforms(
-    buckets: &[&AnyBucket; 8],
-    xs: &[u32; 8],
-    r: u32,
-) -> Option<[ItemId; 8]>
+pub(crate) fn pick_uniforms(buckets: &[&AnyBucket; 8], xs: &[u32; 8], r: u32) -> Option<[ItemId; 8]>
     ensures { IfSome result (λ items. (lane : ℕ) (d : _) → lane < 8 → IsPickedBy (slice_index_or buckets.now lane d).now (slice_index xs.now lane) r (slice_index_or items lane no_id)) }
 {
     let place = place_asked(buckets[0], r)?;

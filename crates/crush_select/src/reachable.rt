@@ -2,7 +2,7 @@
 
 ghost use Rattle.std.specs.Prelude.{◌≡◌, ℕ, ◌<◌, ◌+◌, ◌||◌, ◌&&◌, nat_le, length};
 ghost use Rattle.std.specs.List.{list_any};
-ghost use Rattle.crush_kinds.specs.Pickable.{pickable, weighs};
+ghost use Rattle.crush_kinds.specs.Pickable.{pickable};
 ghost use Rattle.crush_bucket.specs.Tables.{bucket_at, bucket_numbered};
 ghost use Rattle.crush_select.specs.Private.Reachable as spec;
 ghost use Rattle.crush_select.specs.Private.Reachable.{IsMarked, can_be_placed, can_end_at, marked};
@@ -13,8 +13,9 @@ use crate::row::Slot;
 use crate::walk::Walk;
 use crate::weights::{Weights, is_device_in};
 use crush_bucket::{BucketNo, Tables};
+use crush_kinds::{picks_by_weight, without_weights};
 use crush_map::limits::BUCKET_LIMIT;
-use crush_map::{ItemId, Kind, Weight};
+use crush_map::{ItemId, Weight};
 
 /// Returns whether a bucket is marked. One that the list of marks lacks isn't.
 fn is_marked(marks: &[bool], bucket: BucketNo) -> bool
@@ -23,34 +24,6 @@ fn is_marked(marks: &[bool], bucket: BucketNo) -> bool
     match marks.get(bucket.place()) {
         Some(mark) => *mark,
         None => false,
-    }
-}
-
-/// Returns whether some item weighs something.
-fn some_weighs(items: &[(ItemId, Weight)]) -> bool
-    ensures { result ≡ list_any weighs items.now }
-{
-    items.iter().any(|item| item.1.0 > 0)
-}
-
-/// Returns whether a bucket of the kind `kind` picks items of weight above 0 alone.
-fn picks_by_weight(kind: Kind, items: &[(ItemId, Weight)]) -> bool
-    ensures { result ≡ spec.picks_by_weight kind items.now }
-{
-    match kind {
-        Kind::Uniform => false,
-        Kind::List | Kind::Tree => some_weighs(items),
-    }
-}
-
-/// Returns the items that a bucket of the kind `kind` can pick where it doesn't go by weights.
-fn without_weights(kind: Kind, items: &[(ItemId, Weight)]) -> &[(ItemId, Weight)]
-    ensures { result.now ≡ spec.without_weights kind items.now }
-{
-    match kind {
-        Kind::Uniform => items,
-        Kind::List => &items[..items.len().min(1)],
-        Kind::Tree => &items[items.len().saturating_sub(1)..],
     }
 }
 

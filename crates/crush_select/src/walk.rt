@@ -8,7 +8,7 @@ ghost use Rattle.crush_map.specs.declared.limits.TheConstants.{COUNT_LIMIT};
 
 use crate::effort::Effort;
 use crush_bucket::{BucketNo, Scratch, Tables};
-use crush_map::{ItemId, Kind};
+use crush_map::ItemId;
 
 /// A walk for an input, from a bucket to an item of a type.
 #[derive(Clone, Copy)]
@@ -49,7 +49,7 @@ fn attempt_at(tables: &Tables, attempts: Attempts, bucket: BucketNo) -> u32
     if attempts.round == 0 {
         return attempts.start;
     }
-    let uniform = matches!(tables.kind(bucket), Kind::Uniform);
+    let uniform = tables.kind(bucket).is_uniform();
     let extra = if uniform && tables.size(bucket) % attempts.numrep as usize == 0 {
         1
     } else {

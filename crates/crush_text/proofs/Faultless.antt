@@ -4,8 +4,8 @@
 use Rattle.std.proofs.Common.{◌≡◌, ◌∙◌, ◌+◌, ◌==◌, ◌||◌, ◌&&◌, nat_lt, nat_le, length, Bool, true, false, not, Option, Some, None, List, [], ◌∷◌, ◌++◌, ℕ, ℤ, pos, negsuc, refl, sym, ap, map, fold}
 use Rattle.std.proofs.lemmas.List.Folds.{list_any-append}
 use Rattle.std.proofs.lemmas.List.Sums.{fold-append}
-use Rattle.crush_map.specs.declared.limits.TheConstants.{BUCKET_LIMIT, ITEM_LIMIT, TOTAL_WEIGHT_LIMIT}
-use Rattle.crush_types.specs.Weights.{has_equal_weights, total_weight}
+use Rattle.crush_map.specs.declared.limits.TheConstants.{BUCKET_LIMIT, ITEM_LIMIT}
+use Rattle.crush_types.specs.Weights.{has_equal_weights}
 use Rattle.crush_map.specs.declared.fault.FaultCode.{FaultCode}
 use Rattle.crush_map.specs.declared.fault.FaultCode.TheVariants.{M1, M2, M3, M4, M5, M6, M7, M8, M9, M10, M12, M15}
 use Rattle.crush_map.specs.declared.fault.Element.{Element}

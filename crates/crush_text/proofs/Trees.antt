@@ -193,7 +193,7 @@ alg_says true n Straw2 h = refl
 alg_says false n Uniform h = refl
 alg_says false n ListKind h = refl
 alg_says false n Tree h = refl
-alg_says false n Straw2 h = absurd (h refl)
+alg_says false n Straw2 h = let none : false ≡ true = h refl in cc
 
 alg_token : (a : Kind) → IsToken (kind_name a)
 alg_token Uniform = keyword (codes "uniform") refl

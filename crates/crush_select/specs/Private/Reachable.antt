@@ -1,14 +1,10 @@
 -- Whether any try can succeed, whatever the buckets pick of the items that they can pick: where it
 -- is false for a call, the call places nothing more.
-use Rattle.std.specs.Prelude.{◌≡◌, ℕ, zero, suc, ◌<◌, ◌-◌, ◌&&◌, ◌==◌, nat_lt, Bool, true, false, not, if◌then◌else◌, List, [], length, take, drop, slice_index_or, Option, Some, None}
+use Rattle.std.specs.Prelude.{◌≡◌, ℕ, zero, suc, ◌<◌, ◌&&◌, ◌==◌, nat_lt, Bool, true, false, not, if◌then◌else◌, List, [], length, slice_index_or, Option, Some, None}
 use Rattle.std.specs.List.{list_any}
 use Rattle.crush_types.specs.declared.ItemId.{ItemId}
 use Rattle.crush_map.specs.declared.limits.TheConstants.{BUCKET_LIMIT}
-use Rattle.crush_types.specs.declared.Kind.{Kind}
-use Rattle.crush_types.specs.declared.Kind.TheVariants.{Uniform, List as ListKind, Tree}
-use Rattle.crush_types.specs.Kinds.{is_uniform}
-use Rattle.crush_kinds.specs.Bucket.{WeightedItem}
-use Rattle.crush_kinds.specs.Pickable.{weighs, pickable}
+use Rattle.crush_kinds.specs.Pickable.{pickable}
 use Rattle.crush_bucket.specs.Tables.{TablesView, bucket_at, type_at, bucket_numbered}
 use Rattle.crush_select.specs.declared.firstn.FirstnCall.{FirstnCall}
 use Rattle.crush_select.specs.declared.indep.IndepCall.{IndepCall}
@@ -70,18 +66,6 @@ firstn_can_place t w c items leaves = can_choose t w c.x c.wanted items (nat_lt 
 -- compared
 abbrev pub indep_can_place : TablesView → List ℕ → IndepCall → List Slot → Bool
 indep_can_place t w c items = can_choose t w c.x c.wanted items (nat_lt 0 c.leaf_tries) [] c.bucket
-
--- ---- the items that a bucket can pick
-
--- whether a bucket of this kind picks items of weight above 0 alone
-abbrev pub picks_by_weight : Kind → List WeightedItem → Bool
-picks_by_weight kind items = not (is_uniform kind) && list_any weighs items
-
--- the items that a bucket of this kind can pick where it doesn't go by weights
-abbrev pub without_weights : Kind → List WeightedItem → List WeightedItem
-without_weights Uniform items = items
-without_weights ListKind items = take 1 items
-without_weights Tree items = drop (length items - 1) items
 
 -- ---- marks of buckets
 
