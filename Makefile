@@ -78,7 +78,7 @@ help:
 ##                dist/crushcalc-VERSION
 ##
 ## Checks beside make test, each on the built program:
-## make ceph-check      compares 176,000 mappings, 96,000 placements, names, impacts, texts and plans
+## make ceph-check      compares 286,000 mappings, 128,000 placements, names, impacts, texts and plans
 ##                with those of Ceph's own library, osdmaptool and crushtool
 ## make cluster-check   starts real Ceph clusters on this machine, foretells by crushplan what drains,
 ##                failures, upmap items and changed maps of the seed SEED=S (the time) do to them,
@@ -219,6 +219,7 @@ NEEDS_sqlite = sqlite3
 
 define CHECK_ceph
 python3 tests/ceph/check_names
+python3 tests/ceph/check_logarithms
 python3 tests/ceph/check ./crushcalc build/crush_bench
 python3 tests/ceph/check_pools ./crushcalc
 python3 tests/ceph/check_exceptions ./crushcalc

@@ -6,7 +6,7 @@
 #include <stdlib.h>
 #include <time.h>
 
-enum { UNIFORM = 1, LIST = 2, TREE = 3 };
+enum { UNIFORM = 1, LIST = 2, TREE = 3, STRAW2 = 5 };
 enum { HASH_RJENKINS1 = 0 };
 enum { TAKE = 1, CHOOSE_FIRSTN = 2, CHOOSE_INDEP = 3, EMIT = 4, CHOOSELEAF_FIRSTN = 6, CHOOSELEAF_INDEP = 7 };
 enum { SET_CHOOSE_TRIES = 8, SET_CHOOSELEAF_TRIES = 9, SET_CHOOSELEAF_VARY_R = 12, SET_CHOOSELEAF_STABLE = 13 };
@@ -48,7 +48,7 @@ static long number(const char *text, long least, long greatest) {
 }
 
 static int kind_of(const char *text) {
-  return (int)number(text, UNIFORM, TREE);
+  return (int)number(text, UNIFORM, STRAW2);
 }
 
 static struct crush_map *new_map(void) {

@@ -58,6 +58,7 @@ static int kind_named(const char *word) {
   if (is(word, "uniform")) return UNIFORM;
   if (is(word, "list")) return LIST;
   if (is(word, "tree")) return TREE;
+  if (is(word, "straw2")) return STRAW2;
   refuse("no such kind of bucket");
   return 0;
 }

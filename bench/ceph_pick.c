@@ -1,5 +1,5 @@
-/* usage: ceph_pick KIND N COUNT [TRIES]     (KIND: 1 uniform, 2 list, 3 tree; N items; inputs 0
-      .. COUNT-1)
+/* usage: ceph_pick KIND N COUNT [TRIES]     (KIND: 1 uniform, 2 list, 3 tree, 5 straw2; N items;
+      inputs 0 .. COUNT-1)
 
    Times picks from one bucket by Ceph's own code. The library doesn't export a single pick, so
    this is crush_do_rule over a map of that one bucket with the rule `take -1; choose firstn 1

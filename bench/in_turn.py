@@ -11,7 +11,8 @@ import sys
 
 HERE = pathlib.Path(__file__).resolve().parent
 RUNS, GROUPS, SIZE, PER_HOST = 5, 65_536, 3, 10
-KINDS = ("uniform", "list", "tree")
+KINDS = ("uniform", "list", "tree", "straw2")
+MARK = "# crushcalc: straw2"  # the first line of each text with straw2 buckets
 # devices, with the hosts of a rack
 SHAPES = {1_000: 20, 1_250: 25, 2_500: 50, 5_000: 50, 10_000: 50}
 ONE, HALF = 65_536, 32_768
@@ -34,7 +35,8 @@ def cluster(devices, kind="list", hosts=None):
     to compare by its number. Fewer hosts leave the last ones out of their rack."""
     all_hosts = devices // PER_HOST
     per_rack, hosts = SHAPES[devices], hosts or all_hosts
-    lines = [f"tunable {it}" for it in ("choose_local_tries 0", "choose_local_fallback_tries 0", "choose_total_tries 50", "chooseleaf_descend_once 1", "chooseleaf_vary_r 1", "chooseleaf_stable 1")]
+    lines = [MARK] if kind == "straw2" else []
+    lines += [f"tunable {it}" for it in ("choose_local_tries 0", "choose_local_fallback_tries 0", "choose_total_tries 50", "chooseleaf_descend_once 1", "chooseleaf_vary_r 1", "chooseleaf_stable 1")]
     lines += [f"device {it} osd.{it:05}" for it in range(devices)] + ["type 0 osd", "type 1 host", "type 2 rack", "type 3 root"]
     racks = [[it for it in range(start, start + per_rack) if it < hosts] for start in range(0, all_hosts, per_rack)]
     for it in range(hosts):

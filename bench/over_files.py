@@ -2,6 +2,7 @@
 import contextlib
 import json
 import pathlib
+import random
 import shutil
 import statistics
 import subprocess
@@ -11,7 +12,7 @@ import time
 
 TOP = pathlib.Path(__file__).resolve().parent.parent
 sys.path[:0] = [str(TOP / "tests"), str(TOP / "tests" / "ceph")]
-from make_maps import HOST, ONE, RACK, ROOT, Map, hosts_of  # noqa: E402
+from make_maps import HOST, ONE, RACK, ROOT, Map, hosts_of, tree_of  # noqa: E402
 
 RUNS = 5
 
@@ -38,6 +39,33 @@ def racks(kind, per_host, size=3):
         it.bucket(kind, RACK, [(-6 - host, per_host * ONE) for host in range(8 * rack, 8 * (rack + 1))], -2 - rack)
     it.bucket(kind, ROOT, [(-2 - rack, 8 * per_host * ONE) for rack in range(4)], -1)
     return it.rule("take -1", f"chooseleaf firstn {size} {HOST}", "emit", sizes=(size,)).text()
+
+
+def even_weights():
+    return lambda d: ONE
+
+
+def mixed_weights():
+    return lambda d: ONE * (1 + d % 4)
+
+
+def random_weights():
+    """Below 16.0."""
+    drawn = random.Random(1)
+    return lambda d: drawn.randrange(1, 16 * ONE)
+
+
+def racks_of_twelve(kind, weight, size=3):
+    """Eight racks of ten hosts of twelve devices, all buckets of this kind."""
+    it = tree_of(Map("twelve"), [kind] * 3, 8, 10, 12, weight)
+    return it.rule("take -1", f"chooseleaf firstn {size} {HOST}", "emit", sizes=(size,)).text()
+
+
+def flat(kind, count, weight):
+    """So many devices in one bucket of this kind, of which the rule takes one."""
+    it = Map("flat")
+    it.bucket(kind, ROOT, it.take_devices(count, weight), -1)
+    return it.rule("take -1", "choose firstn 1 0", "emit", sizes=(1,)).text()
 
 
 def of_length(length, kind="list"):

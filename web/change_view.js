@@ -1,12 +1,13 @@
 // An answer as it is shown: what counts in large numbers, then what each place has before and
 // after, and the groups, folded.
 import { counted, csv, el } from "./dom.js";
-import { count, figures, many } from "./figures.js";
+import { figures } from "./figures.js";
 import { groupTable } from "./group_table.js";
 import { DEVICE_HEADS, deviceFields, isPlaced, placesTable } from "./places.js";
 import { decimals, expectedOf, partText, percent, percentText } from "./shares.js";
+import { NO_ROOM, hundredths, nearText, roomsOf, usedText } from "./rooms.js";
 import { picture } from "./picture.js";
-import { some } from "./dump.js";
+import { count, many, sized, some } from "./words.js";
 
 export function legend(...pairs) {
     return el("ul", { class: "legend" }, pairs.map(([kind, text]) => el("li", {}, el("span", { class: `key ${kind}`, "aria-hidden": "true" }), text)));
@@ -29,53 +30,67 @@ export function totals(cluster, found, { before, after, map = cluster.map }) {
     return {
         moved: sum(found, (it) => it.moved), anew: sum(found, (it) => it.anew), short: sum(found, (it) => it.lacks.groups), missing: sum(found, (it) => it.lacks.copies), stopped: sum(found, (it) => it.lacks.stopped),
         shortBefore: sum(found, (it) => it.lackedBefore.groups), missingBefore: sum(found, (it) => it.lackedBefore.copies), had: added(found, "had"), has: added(found, "has"), gains: added(found, "gains"), losses: added(found, "losses"),
-        expectedBefore: expectedOf(cluster.map, pools, before, copies("had")), expectedAfter: expectedOf(map, pools, after, copies("has")),
+        expectedBefore: expectedOf(cluster.map, pools, before, copies("had")), expectedAfter: expectedOf(map, pools, after, copies("has")), rooms: roomsOf(cluster, found),
     };
 }
 
-// The device that has most of what is expected of it, after the change.
+// The device that is fullest after the change: by bytes where these are known, else by what is
+// expected of it.
 export function fullest(cluster, all) {
-    let top = null;
-    for (const id of cluster.map.byId.keys()) {
-        const of = percent(all.has(id), all.expectedAfter.get(id) ?? 0);
-        if (cluster.map.devices.has(cluster.name(id)) && of !== undefined && (!top || of > top.percent)) top = { id, percent: of };
-    }
-    return top;
+    const ids = [...cluster.map.byId.keys()].filter((id) => cluster.map.devices.has(cluster.name(id)) && all.has(id)), used = ids.filter((id) => all.rooms.usedAfter(id) !== null);
+    const share = (id) => percent(all.has(id), all.expectedAfter.get(id) ?? 0), of = used.length ? all.rooms.usedAfter : share, found = (used.length ? used : ids).filter((id) => of(id) !== undefined);
+    return found.length ? found.reduce((top, id) => (of(id) > of(top) ? id : top)) : null;
 }
 
 // The answer in a row of large numbers: groups that get fewer copies, groups that move, copies that
 // are written anew, and the fullest device.
 export function answerRow(cluster, all) {
-    const top = fullest(cluster, all);
+    const top = fullest(cluster, all), { rooms } = all, near = cluster.known.ratios.nearfull_ratio, past = rooms.past("nearfull_ratio").length;
     return figures([
         [all.short, `${all.short === 1 ? "group has" : "groups have"} fewer copies than the pool's size afterwards${all.shortBefore ? `, and ${count(all.shortBefore)} now` : ""}`, all.short ? "bad" : "good", "short"],
-        [all.moved, `${all.moved === 1 ? "group moves" : "groups move"}`, "", "moved"], [all.anew, `${all.anew === 1 ? "copy is" : "copies are"} written anew`, "", "anew"],
-        top && [percentText(all.has(top.id), all.expectedAfter.get(top.id)), `of its share has ${cluster.name(top.id)}, the fullest device afterwards`, "", "fullest"],
+        [all.moved, `${all.moved === 1 ? "group moves" : "groups move"}`, "", "moved"], [all.anew, `${all.anew === 1 ? "copy is" : "copies are"} written anew${rooms.wrote === null ? "" : `, ${sized(rooms.wrote)}`}`, "", "anew"],
+        top !== null && [percentText(all.has(top), all.expectedAfter.get(top)), `of its share has ${cluster.name(top)}, the fullest device afterwards`, "", "fullest"],
+        top !== null && rooms.usedAfter(top) !== null && [hundredths(rooms.usedAfter(top)), `of its room is used then${near === undefined ? "" : `; near-full is ${hundredths(near)}`}${past > 1 ? `, and ${count(past)} devices get past it` : ""}`, past ? "bad" : "", "room"],
     ], "answer");
 }
 
 // The answer in one sentence: whether every copy has a device, and how many groups move. `stopped`
 // is how many groups stop while devices are down, `keeping` how many copies stay on devices that a
 // rule takes by name, `broken` how many groups have exceptions that break their rule, `unknown` how
-// much isn't computed that may have to do with it.
-export function verdict(found, all, { stopped = 0, keeping = 0, broken = 0, unknown = 0 } = {}) {
+// much isn't computed that may have to do with it. Nothing is known where the cluster itself says
+// that its groups lie otherwise.
+export function verdict(cluster, found, all, more = {}) {
+    const { kind, head, rest } = answered(cluster, found, all, more), { doubt } = cluster.known;
+    if (doubt) return el("p", { class: "verdict unknown", id: "verdict" }, el("strong", {}, "Unknown"), `: ${doubt}. As computed: ${head.toLowerCase()}${rest}`);
+    return el("p", { class: `verdict ${kind}`, id: "verdict" }, el("strong", {}, head), rest);
+}
+
+function answered(cluster, found, all, { stopped = 0, keeping = 0, broken = 0, unknown = 0 }) {
+    const { rooms } = all, full = rooms.past("backfillfull_ratio"), near = nearText(rooms);
     const lacking = found.filter((it) => it.lacks.copies).map((it) => it.pool.name), moved = `${many(all.moved, "group")} ${all.moved === 1 ? "moves" : "move"}`, has = (it) => (it === 1 ? "has" : "have");
     const before = all.missingBefore === all.missing ? " (as many as before)" : all.missingBefore ? ` (${count(all.missingBefore)} before)` : "";
     const why = [
         stopped && `${many(stopped, "group")} ${has(stopped)} fewer copies than min_size while the devices are down, so ${stopped === 1 ? "its" : "their"} I/O stops`,
         all.missing && `${many(all.missing, "copy", "copies")} of ${lacking.length === 1 ? "pool" : "the pools"} ${some(lacking, 3)} ${has(all.missing)} no device${before}`,
+        full.length && `${usedText(cluster, rooms, full)}, past the backfill-full ratio`,
         broken && `${many(broken, "group")} would break the rule, and Ceph removes such items`,
         keeping && `${many(keeping, "copy", "copies")} ${keeping === 1 ? "stays" : "stay"}: a rule takes the device by name`,
     ].filter(Boolean);
-    if (why.length) return el("p", { class: "verdict bad", id: "verdict" }, el("strong", {}, "No"), `: ${why.join("; ")}; ${moved}.`);
-    if (unknown) return el("p", { class: "verdict unknown", id: "verdict" }, el("strong", {}, "Unknown"), `: not all of it can be computed; of what can, ${moved}.`);
-    return el("p", { class: "verdict good", id: "verdict" }, el("strong", {}, "Yes"), `: ${all.moved ? moved : "no group moves"}, and every copy has a device.`);
+    if (why.length) return { kind: "bad", head: "No", rest: `: ${[...why, rooms.gap].filter(Boolean).join("; ")}; ${moved}.` };
+    const lacks = [unknown && "not all of it can be computed", rooms.gap].filter(Boolean);
+    if (lacks.length) return { kind: "unknown", head: "Unknown", rest: `: ${lacks.join("; ")}; of what can, ${moved}.` };
+    return { kind: "good", head: "Yes", rest: `${near ? `, but ${near}` : ""}: ${all.moved ? moved : "no group moves"}, and every copy has ${rooms.isKnown ? "room" : "a device"}.` };
 }
 
 // What isn't computed and may have to do with the answer.
-export function leftOutNote(pools, groups = 0) {
-    const lines = [...pools.map((it) => it.text), groups && `${many(groups, "group")} with whole upmap lists may have to do with these devices, and where they lie isn't computed`].filter(Boolean);
-    return lines.length ? el("div", { class: "note", id: "left-out" }, el("p", {}, "The answer lacks this:"), el("ul", {}, lines.map((it) => el("li", {}, it)))) : null;
+export function leftOutNote(lacks) {
+    return lacks.length ? el("div", { class: "note", id: "left-out" }, el("p", {}, "The answer lacks this:"), el("ul", {}, lacks.map((it) => el("li", {}, it.text)))) : null;
+}
+
+// What a planner has to know beside the answer: that room isn't looked at, and `more`.
+export function beside(all, more = []) {
+    const lines = [!all.rooms.looks && NO_ROOM, ...more].filter(Boolean);
+    return lines.length ? el("ul", { class: "hint", id: "beside" }, lines.map((it) => el("li", {}, `${it[0].toUpperCase()}${it.slice(1)}.`))) : null;
 }
 
 // One line for each pool, where there are several.
@@ -90,10 +105,12 @@ const signed = (it) => (it > 0 ? `+${count(it)}` : it < 0 ? `−${count(-it)}` :
 
 // What each place has before and after, with sums.
 export function beforeAfter(cluster, all, name, marked) {
-    const values = { had: all.had, has: all.has, was: (id) => all.expectedBefore.get(id), will: (id) => all.expectedAfter.get(id) };
+    const { rooms } = all, values = { had: all.had, has: all.has, was: (id) => all.expectedBefore.get(id), will: (id) => all.expectedAfter.get(id) }, sized_ = rooms.known && [...cluster.map.byId.keys()].some(rooms.hasRoom);
+    if (rooms.known) Object.assign(values, { bytes: rooms.bytesAfter, held: rooms.heldAfter, size: rooms.size });
     const columns = [
         { head: "copies before", text: ({ had }) => count(had) }, { head: "copies after", text: ({ has }) => count(has) }, { head: "change", text: ({ had, has }) => signed(has - had) },
         { head: "share before", text: ({ had, was }) => percentText(had, was) }, { head: "share after", text: ({ has, will }) => percentText(has, will) },
+        ...rooms.known ? [{ head: "bytes after", text: ({ bytes }) => sized(bytes) }] : [], ...sized_ ? [{ head: "used after", text: ({ held, size }) => (size ? hundredths(held / size) : "–") }] : [],
     ];
     function draw({ block, line }, { had, has, will }) {
         block("used", 0, Math.min(had, has));
@@ -101,10 +118,11 @@ export function beforeAfter(cluster, all, name, marked) {
         block("less", has, had);
         if (will) line("even", will);
     }
-    const orders = [["most", "most of its share first", ({ has, will }) => percent(has, will) ?? -1], ["gain", "greatest gain first", ({ had, has }) => has - had], ["copies", "most copies first", ({ has }) => has]];
-    const heads = [...DEVICE_HEADS, "copies_before", "copies_after", "expected_before", "expected_after", "percent_before", "percent_after"];
+    const orders = [["most", "most of its share first", ({ has, will }) => percent(has, will) ?? -1], ["gain", "greatest gain first", ({ had, has }) => has - had], ["copies", "most copies first", ({ has }) => has], ...sized_ ? [["full", "fullest first", ({ held, size }) => (size ? held / size : -1)]] : []];
+    const heads = [...DEVICE_HEADS, "copies_before", "copies_after", "expected_before", "expected_after", "percent_before", "percent_after", ...rooms.known ? ["bytes_before", "bytes_after", "used_before", "used_after"] : []];
+    const part = (it) => (it === null ? "" : decimals(it, 4)), inBytes = (id) => (rooms.known ? [Math.round(rooms.bytesBefore(id)), Math.round(rooms.bytesAfter(id)), part(rooms.usedBefore(id)), part(rooms.usedAfter(id))] : []);
     const rows = () => [...cluster.map.byId.keys()].filter((id) => isPlaced(cluster, id) || all.had(id) || all.has(id)).map((id) => [...deviceFields(cluster, id), all.had(id), all.has(id), decimals(all.expectedBefore.get(id) ?? 0, 2), decimals(all.expectedAfter.get(id) ?? 0, 2),
-        partText(all.had(id), all.expectedBefore.get(id) ?? 0), partText(all.has(id), all.expectedAfter.get(id) ?? 0)]);
+        partText(all.had(id), all.expectedBefore.get(id) ?? 0), partText(all.has(id), all.expectedAfter.get(id) ?? 0), ...inBytes(id)]);
     return placesTable(cluster, {
         values, columns, draw, orders, top: ({ had, has, will }) => Math.max(had, has, will), id: "usages", mark: marked,
         legend: legend(["used", "copies before and after"], ["gain", "more after"], ["less", "less after"], ["even", "expected after, by weight and reweight"]),

@@ -2,6 +2,7 @@
 // isn't changed. Copies have numbers, so that those which a closed browser left are found.
 import { ask, change, forget, kept } from "./service.js";
 import { meaning } from "./codes.js";
+import { devicesIn } from "./map.js";
 
 const COPY = "crushcalc.copy.", CHANGES = 1024, MOST = 16;
 // the longest name of which copies can be made
@@ -65,38 +66,41 @@ async function made(tenant, signal) {
 
 // The text of a map with the same devices and the rules of the same numbers, by which nothing lies
 // anywhere: moves from it to another version list all groups.
-export function emptyMap(map) {
-    return ["tunable choose_local_tries 0", "tunable choose_local_fallback_tries 0", ...[...map.devices.values(), ...map.fillers].map((it) => `device ${it.id} ${it.name}`), "type 0 osd",
-        ...map.rules.map((it) => `rule r${it.id} { id ${it.id} type ${it.kind} step emit }`), ""].join("\n");
+export function emptyMap(text) {
+    const devices = Array.from(text.matchAll(/^device \d+ \S+/gm), (it) => it[0]), rules = text.matchAll(/^rule \S+ \{\s+id (\d+)\s+type (\w+)/gm);
+    return ["tunable choose_local_tries 0", "tunable choose_local_fallback_tries 0", ...devices, "type 0 osd", ...Array.from(rules, ([, id, kind]) => `rule r${id} { id ${id} type ${kind} step emit }`), ""].join("\n");
 }
 
 // The exceptions of a pool, without those that name a device which the newest map lacks: these have
 // no effect, and the service takes none of them anew.
-async function exceptionsOf({ tenant, map }, pool, signal) {
-    const reply = await ask(`Exceptions of ${pool.name}`, "GET", `/t/${tenant}/pools/${pool.id}/exceptions`, undefined, signal);
-    return good(reply, "The pool's exceptions").exceptions.filter((it) => map.byId.has(it.from) && map.byId.has(it.to));
+async function exceptionsOf(cluster, pool, { signal }, devices) {
+    return (await exceptionsIn(cluster, pool, signal)).filter((it) => devices.has(it.from) && devices.has(it.to));
 }
+
+// The exceptions of a pool: those of the service, or all those that are more than it takes.
+export async function exceptionsIn({ known, path }, pool, signal) {
+    if (known.pairs[pool.id]) return known.pairs[pool.id].map(([group, from, to]) => ({ group, from, to }));
+    return good(await ask(`Exceptions of ${pool.name}`, "GET", `${path(pool)}/exceptions`, undefined, signal), "The pool's exceptions").exceptions;
+}
+
+// How many pairs the service takes of a pool.
+export const PAIRS = 1024;
 
 // What is sent of a pool to the service.
 export function poolBody({ id, name, kind, size, rule, pg_num, pgp_num, hashpspool }) {
     return { id, name, kind, size, rule, pg_num, pgp_num, hashpspool };
 }
 
-// The states of devices that this page knows, of those that the map has.
-export function statesOf({ known, map }) {
-    return Object.entries(known.states).filter(([id]) => map.byId.has(Number(id))).map(([id, it]) => ({ id: Number(id), ...it }));
-}
-
-// A copy to which changes are made one after the other.
-function writable(name, work) {
+// A copy to which changes are made one after the other. `devices` are those of its newest text.
+function writable(name, work, devices) {
     const set = async (what, route, fields) => {
         work.goesOn();
         return good(await change(what, name, route, fields, { copy: true }), what);
     };
     return {
-        name, set, pairs: new Map(),
+        name, set, devices, pairs: new Map(),
         async states(changes) {
-            for (const part of parts(changes)) await set("Set states of devices in the copy", "devices", { devices: part });
+            for (const part of parts(changes.filter((it) => this.devices.has(it.id)))) await set("Set states of devices in the copy", "devices", { devices: part });
         },
         exceptions: (pool, pairs) => set("Set the pool's exceptions in the copy", "pools/exceptions", { id: pool.id, exceptions: pairs }),
         // gives the number of the version
@@ -104,22 +108,35 @@ function writable(name, work) {
     };
 }
 
-// Version 1 has nothing anywhere, version 2 is the newest map of the tenant.
-async function filled(copy, cluster, pools, work) {
-    await copy.map(emptyMap(cluster.map));
-    await copy.map(cluster.text);
-    await copy.states(statesOf(cluster));
+// Version 1 has nothing anywhere, version 2 is the newest map of the tenant. Exceptions that are
+// more than the service takes aren't set.
+async function filled(copy, cluster, { text, pools }, work) {
+    await copy.map(emptyMap(text));
+    await copy.map(text);
+    await copy.states(Object.entries(cluster.known.states).map(([id, it]) => ({ id: Number(id), ...it })));
     for (const pool of pools) {
         await copy.set("Make the pool in the copy", "pools", poolBody(pool));
-        const pairs = await exceptionsOf(cluster, pool, work.signal);
+        const pairs = await exceptionsOf(cluster, pool, work, copy.devices);
         copy.pairs.set(pool.id, pairs);
-        if (pairs.length) await copy.exceptions(pool, pairs);
+        if (pairs.length && pairs.length <= PAIRS) await copy.exceptions(pool, pairs);
     }
 }
 
-// Makes a copy of the tenant's newest map, the known states of its devices and these pools with
-// their exceptions, and gives what `act` gives of it. The copy is dropped then.
-export function withCopy(cluster, pools, work, act) {
+// Pools by the text that they have, each with the tenant's newest version of it, and by the one that
+// they get later, where there is one.
+export function groupsOf(cluster, pools, later = null) {
+    const found = new Map();
+    for (const pool of pools) {
+        const key = `${cluster.of(pool)} ${later?.places[pool.id]}`;
+        if (!found.has(key)) found.set(key, { text: cluster.texts.get(cluster.of(pool)), later: later?.texts[later.places[pool.id]], pools: [] });
+        found.get(key).pools.push(pool);
+    }
+    return [...found.values()];
+}
+
+// Makes a copy of pools that have one text, with the known states of devices and with their
+// exceptions, and gives what `act` gives of it. The copy is dropped then.
+export function withCopy(cluster, group, work, act) {
     if (cluster.tenant.length > LONGEST) throw new Unlike(`A copy has a longer name than its cluster, whose name may have ${LONGEST} letters for that.`);
     return new Promise((done, failed) => {
         work.step("Making a copy of the cluster");
@@ -127,8 +144,8 @@ export function withCopy(cluster, pools, work, act) {
             localStorage.setItem(COPY + name, "1");
             inUse.add(name);
             try {
-                const copy = writable(name, work);
-                await filled(copy, cluster, pools, work);
+                const copy = writable(name, work, devicesIn(group.text));
+                await filled(copy, cluster, group, work);
                 done(await act(copy));
             } catch (why) {
                 failed(why);

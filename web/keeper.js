@@ -1,13 +1,7 @@
-// Which exceptions (upmap items) Ceph's monitors remove when states of devices change, by
-// OSDMap::check_pg_upmaps and CrushWrapper::verify_upmap of release 16. Lists have null at empty
-// places.
-
-// The list that pairs make of a raw one.
-function paired(raw, pairs, mayBe) {
-    const items = [...raw];
-    for (const [from, to] of pairs) if (items.includes(from) && !items.includes(to) && mayBe(to)) items[items.indexOf(from)] = to;
-    return items;
-}
+// Which exceptions (upmap items and whole lists) Ceph's monitors remove when states of devices
+// change, by OSDMap::check_pg_upmaps and CrushWrapper::verify_upmap of release 16. Lists have null
+// at empty places.
+import { isIdle, paired } from "./settled.js";
 
 // Devices below a bucket, by id; where it has a hole Ceph takes that for the device 0.
 function devicesOf(map, bucket, found = new Set()) {
@@ -24,8 +18,8 @@ function bucketsOfType(map, bucket, type) {
 }
 
 // What the monitors keep on a map, with states: `mayBe` says whether a device is in. Of a group to
-// which CRUSH gives a raw list `kept` gives the pairs that stay once nothing more is removed, and
-// `breaks` says whether they break the pool's rule.
+// which CRUSH gives a raw list `kept` gives the pairs and the whole list that stay once nothing more
+// is removed, and `breaks` says whether they break the pool's rule.
 export function keeper(map, mayBe) {
     const made = new Map(), once = (key, make) => made.get(key) ?? made.set(key, make()).get(key);
     const takes = (rule) => rule.steps.filter(([op]) => op === "take").map((it) => it[1]);
@@ -76,16 +70,20 @@ export function keeper(map, mayBe) {
     function broken(rule, pool, items) {
         return rule.steps.some((step) => (step[0] === "choose" || step[0] === "chooseleaf") && crowded(rule, pool, step, items)) || outside(rule, pool, items) || items.some((it) => it === null || !weights(rule).get(it) || !mayBe(it));
     }
-    function keptOnce(rule, pool, raw, pairs) {
-        return broken(rule, pool, paired(raw, pairs, mayBe)) ? [] : pairs.filter(([from, to]) => raw.includes(from) && mayBe(to));
+    // the list as it is by a whole list and pairs; a list of which a device is out acts no more, nor
+    // do the pairs then
+    const listed = (raw, pairs, list) => (list && isIdle(list, mayBe) ? raw : paired(list ?? raw, pairs, mayBe));
+    function keptOnce(rule, pool, raw, { pairs, list }) {
+        if (broken(rule, pool, listed(raw, pairs, list)) || list && (String(list) === String(raw) || list.length !== pool.size)) return { pairs: [], list: undefined };
+        return { pairs: pairs.filter(([from, to]) => raw.includes(from) && mayBe(to)), list };
     }
     const ruleOf = (pool) => map.rules.find((it) => it.id === pool.rule);
-    function kept(pool, raw, pairs) {
-        for (let now = pairs; ;) {
+    function kept(pool, raw, pairs, list) {
+        for (let now = { pairs, list }; ;) {
             const next = keptOnce(ruleOf(pool), pool, raw, now);
-            if (next.length === now.length) return next;
+            if (next.pairs.length === now.pairs.length && next.list === now.list) return next;
             now = next;
         }
     }
-    return { kept, breaks: (pool, raw, pairs) => broken(ruleOf(pool), pool, paired(raw, pairs, mayBe)) };
+    return { kept, breaks: (pool, raw, pairs, list) => broken(ruleOf(pool), pool, listed(raw, pairs, list)) };
 }

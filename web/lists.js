@@ -1,5 +1,6 @@
 // The up lists of all groups of a pool, as arrays of numbers, and how two such lists of lists
 // differ. An empty place is -1. The worker and the page both use this.
+import { led } from "./settled.js";
 
 // Lists, one after the other: those of `rows`, each a list that may have null at empty places.
 export function flat(lists) {
@@ -18,7 +19,20 @@ export function listAt({ starts, items }, place) {
 export function listsOf(rows, groups) {
     const lists = Array.from({ length: groups }, () => []);
     for (const it of rows) lists[it.group] = it.new;
-    return flat(lists);
+    const found = flat(lists);
+    return { ...found, primaries: Int32Array.from(lists, (list) => list.find((it) => it !== null) ?? -1), counts: counted(found, greatest(found.items) + 1) };
+}
+
+// The lists as they are by what the service doesn't know: `own` are those of some groups, and
+// affinities of devices say which one leads a list.
+export function settledLists(pool, lists, own, affinity) {
+    const primaries = new Int32Array(pool.pg_num).fill(-1), found = [];
+    for (let group = 0; group < pool.pg_num; group += 1) {
+        const { up, primary } = led(pool, group, own.get(group) ?? listAt(lists, group), affinity, -1);
+        found.push(up);
+        primaries[group] = primary;
+    }
+    return { ...flat(found), primaries };
 }
 
 function same(one, other) {
@@ -36,18 +50,11 @@ export function present(list) {
     return list.reduce((count, it, place) => count + (it !== -1 && list.indexOf(it) === place), 0);
 }
 
-// The lists of after, where these groups have what they had before.
-export function staying(before, after, groups) {
-    const own = new Set(groups);
-    return flat(Array.from({ length: after.starts.length - 1 }, (_, group) => listAt(own.has(group) ? before : after, group)));
-}
-
 // How many groups have fewer copies than the pool's size, how many copies these lack, and how many
-// groups have fewer than its min_size; `but` are groups that aren't counted.
-export function lacking(pool, lists, but = []) {
-    const found = { groups: 0, copies: 0, stopped: 0 }, without = new Set(but);
+// groups have fewer than its min_size.
+export function lacking(pool, lists) {
+    const found = { groups: 0, copies: 0, stopped: 0 };
     for (let group = 0; group < pool.pg_num; group += 1) {
-        if (without.has(group)) continue;
         const has = present(listAt(lists, group));
         if (has < pool.size) found.groups += 1;
         found.copies += Math.max(0, pool.size - has);
@@ -72,30 +79,42 @@ function others(list, lacks) {
     return list.filter((it, place) => it !== -1 && !lacks.includes(it) && list.indexOf(it) === place);
 }
 
+// How many of the pool's groups one counts for by its objects: other than 1 where pg_num is no power
+// of two, since Ceph's stable_mod gives some groups twice as many.
+function partOf({ pg_num: groups }, group) {
+    const whole = 2 ** Math.ceil(Math.log2(groups));
+    return whole === groups ? 1 : groups * (groups - whole / 2 <= group && group < whole / 2 ? 2 : 1) / whole;
+}
+
 // Of groups that move, with their lists: how many copies each writes anew, and how often each
-// device joins a list and leaves one.
+// device joins a list and leaves one. By the groups' parts of the pool's objects: what is written in
+// all (`wrote`), and by how much each device has more (`net`).
 function moves(pool, groups, old, next) {
-    const ids = greatest(old.items, next.items) + 1, gains = new Int32Array(ids), losses = new Int32Array(ids), gainedBy = new Int32Array(groups.length);
+    const ids = greatest(old.items, next.items) + 1, gains = new Int32Array(ids), losses = new Int32Array(ids), net = new Float64Array(ids), gainedBy = new Int32Array(groups.length);
+    let wrote = 0;
     groups.forEach((group, place) => {
-        const [one, other] = [listAt(old, place), listAt(next, place)];
+        const [one, other] = [listAt(old, place), listAt(next, place)], part = partOf(pool, group);
+        for (const it of other) if (it !== -1) net[it] += part;
+        for (const it of one) if (it !== -1) net[it] -= part;
         for (const it of others(other, one)) gains[it] += 1;
         for (const it of others(one, other)) losses[it] += 1;
         gainedBy[place] = pool.kind === "erasure" ? placesAnew(one, other) : others(other, one).length;
+        wrote += gainedBy[place] * part;
     });
-    return { moved: groups.length, anew: gainedBy.reduce((sum, it) => sum + it, 0), groups, gainedBy, old, next, gains, losses };
+    return { moved: groups.length, anew: gainedBy.reduce((sum, it) => sum + it, 0), wrote, groups, gainedBy, old, next, gains, losses, net };
 }
 
 // The same of the rows of moves between two versions.
-export function movesOf(pool, rows) {
+export function movesOf(pool, all, affinity = {}) {
+    const rows = Object.keys(affinity).length ? all.map((it) => ({ ...it, old: led(pool, it.group, it.old, affinity).up, new: led(pool, it.group, it.new, affinity).up })).filter((it) => !same(it.old, it.new)) : all;
     return moves(pool, Int32Array.from(rows, (it) => it.group), flat(rows.map((it) => it.old)), flat(rows.map((it) => it.new)));
 }
 
 // What differs between the lists of a pool before and after: the groups that move with their
-// lists, what each device has before and after, gains and loses, and what has no device, but for
-// some groups.
-export function differences(pool, before, after, but) {
+// lists, what each device has before and after, gains and loses, and what has no device.
+export function differences(pool, before, after) {
     const groups = [];
     for (let group = 0; group < pool.pg_num; group += 1) if (!same(listAt(before, group), listAt(after, group))) groups.push(group);
     const of = (lists) => flat(groups.map((group) => [...listAt(lists, group)])), ids = greatest(before.items, after.items) + 1;
-    return { ...moves(pool, Int32Array.from(groups), of(before), of(after)), had: counted(before, ids), has: counted(after, ids), lackedBefore: lacking(pool, before), lacks: lacking(pool, after, but) };
+    return { ...moves(pool, Int32Array.from(groups), of(before), of(after)), had: counted(before, ids), has: counted(after, ids), lackedBefore: lacking(pool, before), lacks: lacking(pool, after) };
 }

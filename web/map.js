@@ -10,15 +10,33 @@ function wordsOf(line) {
     return said.includes("\t") || said.includes("  ") ? said.split(BLANKS) : said.split(" ");
 }
 
-export function readMap(text) {
-    return joined(...parsed(text));
+export function readMap(...texts) {
+    return joined(...all(texts.map(parsed)));
 }
 
-// The same of a long text, in parts, so that the browser can draw and listen between them.
-export async function readLongMap(text) {
-    const parts = parsed(text);
-    await pause();
-    return joined(...parts);
+// The same of long texts, in parts, so that the browser can draw and listen between them.
+export async function readLongMap(texts) {
+    const parts = [];
+    for (const it of texts) {
+        parts.push(parsed(it));
+        await pause();
+    }
+    return joined(...all(parts));
+}
+
+// The devices that a text declares, by id.
+export function devicesIn(text) {
+    return new Set(Array.from(text.matchAll(/^device (\d+) /gm), (it) => Number(it[1])));
+}
+
+// What some texts of one map have together.
+function all(parts) {
+    const [first, ...others] = parts;
+    for (const [devices, buckets, rules, types] of others) {
+        for (const [at, more] of [[0, devices], [1, buckets], [3, types]]) for (const [name, it] of more) if (!first[at].has(name)) first[at].set(name, it);
+        for (const it of rules) if (!first[2].some((one) => one.id === it.id)) first[2].push(it);
+    }
+    return first;
 }
 
 function parsed(text) {

@@ -5,7 +5,10 @@ import { button, el, fault, fresh, labelled, pause, say, sayDone } from "./dom.j
 import { forgetTenant, known, learn, note, tenants } from "./known.js";
 import { devicesBelow, readLongMap, readMap, signature } from "./map.js";
 import { LONGEST, dropLeft, leave } from "./copies.js";
-import { Refused, crushIn, filesOf, importMap, mapIn, osdIn, takeOsd, takeSaved, takeStates } from "./take.js";
+import { lyingByDevice, lyingByGroup } from "./lying.js";
+import { tenantWith, tenantsOf } from "./sides.js";
+import { Refused, crushIn, filesOf, importMap, mapIn, osdIn, takeOsd, takeRooms, takeSaved, takeStates } from "./take.js";
+import { filesOfDrop } from "./folder.js";
 import { aboutStraw } from "./refused.js";
 import { dropBox, showMap } from "./view_map.js";
 import { showPools } from "./view_pools.js";
@@ -53,21 +56,39 @@ async function openTenant(name, work) {
         throw new Error(`${name}: ${meaning(summary.status, summary.error)}`);
     }
     if (summary.epoch < known(name).epoch) forgetTenant(name);
-    const same = cluster?.tenant === name && cluster.summary.epoch === summary.epoch;
-    const it = { tenant: name, summary, map: same ? cluster.map : null, text: same ? cluster.text : "", usages: same ? cluster.usages : new Map(), known: note(name, { epoch: summary.epoch }) };
-    if (summary.versions && !it.map) await readNewest(it, work);
+    const it = { tenant: name, summary, known: note(name, { epoch: summary.epoch }) };
+    const summaries = await othersOf(it, work), epochs = [summary, ...summaries].map((one) => one.epoch).join(), same = cluster?.tenant === name && cluster.epochs === epochs;
+    Object.assign(it, same ? { map: cluster.map, texts: cluster.texts, usages: cluster.usages, plain: cluster.plain } : { map: null, texts: new Map(), usages: new Map(), plain: new Map() }, { epochs });
+    if (summary.versions && !it.map) await readNewest(it, [summary, ...summaries], work);
     it.name = (id) => it.map.byId.get(id)?.name ?? `device ${id}`;
     it.deviceOf = (word) => it.map.devices.get(word)?.id ?? (/^device \d+$/.test(word) ? Number(word.slice(7)) : undefined);
+    it.of = (pool) => tenantWith(name, it.known, pool);
+    it.path = (pool) => `/t/${it.of(pool)}/pools/${pool.id}`;
     cluster = it;
+    return it;
 }
 
-async function readNewest(it, work) {
+// What the service says of the tenants of a cluster's other texts.
+async function othersOf({ tenant, known: own }, work) {
+    const found = [];
+    for (const name of tenantsOf(tenant, own).slice(1)) {
+        const reply = await ask(`Open ${name}`, "GET", `/t/${name}`, undefined, work.signal);
+        if (reply.status !== 200) throw new Error(`A text of the map of ${tenant} is gone from the service (${meaning(reply.status, reply.error)}): drop crush.json and osd.json again.`);
+        found.push(reply);
+    }
+    return found;
+}
+
+// Reads the newest text of each of the cluster's tenants; the first ones show the map.
+async function readNewest(it, summaries, work) {
     work.step(`Reading the map of ${it.tenant}`);
-    const reply = await ask("Read the newest version", "GET", `/t/${it.tenant}/maps/${it.summary.versions}`, undefined, work.signal);
-    if (reply.status !== 200) throw new Error(meaning(reply.status, reply.error));
-    it.text = reply.text;
-    await pause();
-    it.map = await readLongMap(reply.text);
+    for (const [place, name] of tenantsOf(it.tenant, it.known).entries()) {
+        const reply = await ask("Read the newest version", "GET", `/t/${name}/maps/${summaries[place].versions}`, undefined, work.signal);
+        if (reply.status !== 200) throw new Error(meaning(reply.status, reply.error));
+        it.texts.set(name, reply.text);
+        await pause();
+    }
+    it.map = await readLongMap([...it.texts.values()].slice(0, it.known.shown));
 }
 
 class Taken extends Error {}
@@ -210,7 +231,7 @@ async function takeFirst(tenant, files, work) {
     const osd = osdIn(files), map = mapIn(files, osd);
     if (!map) throw new Error(NO_MAP);
     const version = await importMap(tenant, map, (file) => take([file]));
-    return osd ? takeWhole(tenant, map, osd, work, version === 1 && known(tenant).seen === 1) : done(tenant, `${map.name} is version ${version} of the map. `, ["pools", "Make a pool"], ["compare", "Compare the versions"], version);
+    return osd ? takeWhole(tenant, map, files, work, version === 1 && known(tenant).seen === 1) : done(tenant, `${map.name} is version ${version} of the map. `, ["pools", "Make a pool"], ["compare", "Compare the versions"], version);
 }
 
 function done(tenant, text, first, later, version, before = "") {
@@ -220,23 +241,42 @@ function done(tenant, text, first, later, version, before = "") {
     return { said: el("p", { class: "done" }, text, before, el("a", { href: `#/${tenant}/${view}` }, words)) };
 }
 
-// The cluster's own dump, after its map: pools, states, upmap items.
-async function takeWhole(tenant, map, osd, work, fresh) {
+// The cluster's own dumps, after its map: pools, states, exceptions, bytes, and how groups lie.
+async function takeWhole(tenant, map, files, work, fresh) {
+    const osd = osdIn(files), open = () => openTenant(tenant, work), taken = await takeOsd(tenant, osd, map, fresh, open, work);
+    takeRooms(tenant, files, osd);
+    const lies = await takeLying(tenant, files, work);
+    return done(tenant, `The cluster is there: ${taken}${lies}. `, ["drain", "choose what is drained or fails"], null, 1, "Click on a host or rack in the picture, or ");
+}
+
+// Compares how groups lie with what pgs.json says, or else osd-df.json, and gives it in words.
+async function takeLying(tenant, { pgs, osdDf }, work) {
+    if (!pgs && !osdDf || !known(tenant).pools.length) return "";
     await openTenant(tenant, work);
-    const taken = await takeOsd(tenant, cluster.map, osd, map, fresh, work);
-    return done(tenant, `The cluster is there: ${taken}. `, ["drain", "choose what is drained or fails"], null, 1, "Click on a host or rack in the picture, or ");
+    const found = pgs ? await lyingByGroup(cluster, pgs.read, work) : await lyingByDevice(cluster, work);
+    note(tenant, found);
+    return found.lying ? `; ${found.lying.text}` : "";
+}
+
+// Bytes, and how groups lie, for a cluster that is there.
+async function takeFullness(tenant, files, work) {
+    takeRooms(tenant, files);
+    const lies = await takeLying(tenant, files, work), names = [files.df, files.osdDf, files.pgs].filter(Boolean).map((it) => it.name);
+    say("");
+    return { said: el("p", { class: "done" }, `${names.join(" and ")} ${names.length === 1 ? "is" : "are"} read${lies}.`) };
 }
 
 // Files for a cluster that has a map. A map that comes alone is tried in a copy.
 async function takeMore(tenant, files, work) {
     if (files.saved) return { said: takeSaved(files.saved, cluster.summary) };
-    if (files.states) return { said: await takeStates(tenant, files.states) };
-    const osd = osdIn(files), map = mapIn(files, osd, (id) => cluster.map.byId.has(id));
+    if (files.states) return { said: await takeStates(cluster, files.states) };
+    const osd = osdIn(files), map = mapIn(files, osd, (id) => cluster.map.byId.has(id), cluster.known.pools);
     if (map && osd) {
-        if (signature(readMap(map.text)) !== signature(cluster.map)) await importMap(tenant, map, (file) => take([file]));
-        return takeWhole(tenant, map, osd, work, false);
+        if (signature(readMap(map.text)) !== signature(readMap(cluster.texts.get(tenant)))) await importMap(tenant, map, (file) => take([file]));
+        return takeWhole(tenant, map, files, work, false);
     }
-    if (osd) return takeWhole(tenant, { dump: null }, osd, work, false);
+    if (osd) return takeWhole(tenant, null, files, work, false);
+    if (!map) return takeFullness(tenant, files, work);
     if (known(tenant).pools.length) return { view: "compare", file: map };
     const version = await importMap(tenant, map, (file) => take([file]));
     return done(tenant, `${map.name} is version ${version} of the map. `, ["pools", "Make a pool"], ["pools", "Make a pool"], version);
@@ -288,7 +328,7 @@ document.addEventListener("dragover", dropping(true));
 document.addEventListener("dragleave", dropping(false));
 document.addEventListener("drop", (event) => {
     dropping(false)(event);
-    if (event.dataTransfer.files.length) take([...event.dataTransfer.files], at("name"));
+    filesOfDrop(event.dataTransfer).then((files) => files.length && take(files, at("name")));
 });
 
 // Sends the requests again that had no answer when the page was left.

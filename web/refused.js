@@ -2,7 +2,7 @@
 // what helps.
 import { FAULTS, NOT_COMPUTED, NO_FAULT, STRAW } from "./codes.js";
 import { button, el, save } from "./dom.js";
-import { many } from "./figures.js";
+import { many } from "./words.js";
 import { guilty, mended } from "./texts.js";
 
 const AROUND = 8, LONGEST_LINE = 300;
@@ -41,9 +41,10 @@ function mending(name, text, take) {
     el("div", { class: "buttons" }, button("Take the mended text", () => take(new File([found.text], file)), { class: "main", id: "mend" }), button("Save the mended text", () => save(file, found.text, "text/plain"))));
 }
 
-// What is said of a refused text. `take` takes another one in its place.
-export function faultOf({ name, text, reply: { fault: code, line } }, take) {
-    const item = itemOf(code, text, line), lines = text.split("\n");
+// What is said of a refused text. `more` is how many lines were put before it, and `take` takes
+// another one in its place.
+export function faultOf({ name, text: sent, more: before = 0, reply: { fault: code, line: at } }, take) {
+    const lines = sent.split("\n").slice(before), text = lines.join("\n"), line = Math.max(1, at - before), item = itemOf(code, text, line);
     const meaning = item?.meaning ?? [el("strong", {}, code), `: ${FAULTS[code] ?? "a code that this page doesn't know."}`];
     const title = NOT_COMPUTED.has(code) ? `crushcalc can't compute ${name}` : `${name} isn't imported`;
     const more = code === "X2" ? aboutStraw() : NOT_COMPUTED.has(code) ? el("p", {}, NO_FAULT) : code === "M6" && take ? mending(name, text, take) : null;

@@ -3,6 +3,7 @@ import { ask, forget, kept } from "./service.js";
 import { meaning } from "./codes.js";
 import { button, el, fault, fresh } from "./dom.js";
 import { forgetTenant } from "./known.js";
+import { dropSides } from "./sides.js";
 
 function question({ tenant, summary: { versions, pools, devices } }) {
     const has = versions || pools || devices ? `${versions} versions of its map, ${pools} pools and ${devices} device states. They can't be had back.` : "no map, no pool and no device states.";
@@ -16,8 +17,9 @@ export function removal(cluster) {
         // what is said meanwhile stands behind an open question
         box.close();
         const reply = await ask(`Delete ${tenant}`, "DELETE", `/t/${tenant}`);
+        if (reply.status === 200) await dropSides(tenant);
         if (reply.status !== 200 && reply.error !== "no_tenant") return said.replaceChildren(fault(`${tenant} isn't deleted. `, meaning(reply.status, reply.error)));
-        for (const it of kept().filter((record) => record.tenant === tenant)) forget(it);
+        for (const it of kept().filter((record) => record.tenant === tenant || record.note?.of === tenant)) forget(it);
         forgetTenant(tenant);
         location.hash = "#/";
         return undefined;

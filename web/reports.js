@@ -1,7 +1,8 @@
 // A worker that reads long replies, so that the page never waits for one: moves and impacts have up
 // to 65,536 groups. Lists are handed over as arrays of numbers, without a copy. An empty place is
 // -1.
-import { differences, listsOf, movesOf } from "./lists.js";
+import { differences, listsOf, movesOf, settledLists } from "./lists.js";
+import { groupsSaid } from "./pgs.js";
 
 const decoder = new TextDecoder();
 
@@ -14,21 +15,24 @@ const READERS = {
         const { groups, ...head } = json(bytes);
         return { ...head, groups: Int32Array.from(groups) };
     },
-    moves: ([bytes], { pool, but }) => {
+    moves: ([bytes], { pool, but, affinity }) => {
         const { rows, ...head } = json(bytes), without = new Set(but);
-        return { ...head, ...movesOf(pool, rows.filter((it) => !without.has(it.group))) };
+        return { ...head, ...movesOf(pool, rows.filter((it) => !without.has(it.group)), affinity) };
     },
     // the lists of a pool's groups, of moves from a map on which all are empty
     lists: ([bytes], pool) => {
         const { rows, epoch } = json(bytes);
         return { epoch, ...listsOf(rows, pool.pg_num) };
     },
-    differences: ([], { pool, before, after, but }) => differences(pool, before, after, but),
+    settled: ([], { pool, lists, own, affinity }) => settledLists(pool, lists, own, affinity),
+    differences: ([], { pool, before, after }) => differences(pool, before, after),
+    // where the cluster itself says that groups lie
+    pgs: ([bytes]) => groupsSaid(json(bytes)),
 };
 
 // The memory of the arrays in what is handed over.
 function buffers(value) {
-    if (value instanceof Int32Array) return [value.buffer];
+    if (ArrayBuffer.isView(value)) return [value.buffer];
     return typeof value === "object" && value !== null ? Object.values(value).flatMap(buffers) : [];
 }
 

@@ -2,15 +2,21 @@
 // another browser saved. Each is read, and what it says is set on the service.
 import { change } from "./service.js";
 import { meaning } from "./codes.js";
-import { good, parts, poolBody } from "./copies.js";
-import { Fault, RJENKINS, devicesOf, kindOf, readCrush, readOsd, ruleFault, some, textOf } from "./dump.js";
+import { computedPools } from "./computable.js";
+import { PAIRS, good, poolBody } from "./copies.js";
+import { Fault, RJENKINS, WRITES, isOfGroups, kindOf, readCrush, readDf, readOsd, readOsdDf } from "./dump.js";
 import { el, fault } from "./dom.js";
-import { count, many } from "./figures.js";
-import { known, note } from "./known.js";
+import { SAID, known, note, statesOf as statesIn } from "./known.js";
+import { marked, textsOf } from "./map_texts.js";
 import { devicesBelow } from "./map.js";
+import { reachOf } from "./reach.js";
+import { readLong } from "./reading.js";
 import { faultOf } from "./refused.js";
+import { keyOf, rowsOf } from "./sets.js";
+import { makeSides, noteFor, setStates, tenantWith } from "./sides.js";
+import { count, many, some } from "./words.js";
 
-const LONGEST_FILE = 16_777_216, LONGEST_BODY = 5_242_880, PAIRS = 1024, SIZE = 32, GROUPS = 65536;
+const LONGEST_FILE = 16_777_216, LONGEST_BODY = 5_242_880, LONGEST_GROUPS = 268_435_456, START = 400;
 
 // The text of a file as it is, its byte order mark too.
 async function textIn(file) {
@@ -18,14 +24,28 @@ async function textIn(file) {
     return new TextDecoder("utf-8", { ignoreBOM: true }).decode(await file.arrayBuffer());
 }
 
-// What the files are: of each kind one.
+// A dump of groups, which the worker reads.
+async function groupsIn(file) {
+    if (file.size > LONGEST_GROUPS) throw new Fault(`${file.name} isn't read: it is longer than ${many(LONGEST_GROUPS, "byte")}.`);
+    const read = await readLong("pgs", [await file.arrayBuffer()]);
+    if (!read) throw new Fault(`${file.name}: it isn't what '${WRITES.pgs}' writes.`);
+    return { name: file.name, kind: "pgs", read: read.pools };
+}
+
+async function fileIn(file) {
+    if (isOfGroups(await file.slice(0, START).text())) return groupsIn(file);
+    const text = await textIn(file), { kind = /^\ufeff?"?id"?,/.test(text) ? "states" : "text", whole } = kindOf(text);
+    if (kind === "other") throw new Fault(`${file.name} is none of what 'crushplan fetch' writes (${Object.values(WRITES).join(", ")}), and no map text.`);
+    return { name: file.name, kind, text, whole };
+}
+
+// What the files are: of each kind one. A folder that `crushplan fetch` wrote has the map twice.
 export async function filesOf(list) {
     const found = {};
     for (const file of list) {
-        const text = await textIn(file), { kind = /^\ufeff?"?id"?,/.test(text) ? "states" : "text", whole } = kindOf(text);
-        if (kind === "other") throw new Fault(`${file.name} is neither what ceph osd crush dump -f json nor what ceph osd dump -f json writes, and no map text.`);
-        if (found[kind]) throw new Fault(`${file.name} and ${found[kind].name} are of one kind: drop one of them.`);
-        found[kind] = { name: file.name, text, whole };
+        const it = await fileIn(file);
+        if (found[it.kind]) throw new Fault(`${it.name} and ${found[it.kind].name} are of one kind: drop one of them.`);
+        found[it.kind] = it;
     }
     if (found.crush && found.text) delete found.text;
     return found;
@@ -44,11 +64,15 @@ export function crushIn(files, there) {
     return crush?.read;
 }
 
-// The map of the files: its text for the service, and the dump where it is one.
-export function mapIn(files, osd, there) {
+// The map of the files: its texts for the service, the first one alone where it is no dump, and the
+// dump where it is one. `pools` are those that it is for, where no osd.json says them: of those that
+// can't be computed `left` says why.
+export function mapIn(files, osd, there, pools = []) {
     const dump = crushIn(files, there);
-    if (!dump) return files.text && { ...files.text, dump: null };
-    return { name: files.crush.name, text: textOf(dump, osd ? [...osd.states.keys()].filter((id) => !dump.devices.has(id)) : []), dump };
+    if (!dump) return files.text && { name: files.text.name, ...marked(files.text.text), places: {}, shown: 1, dump: null, get texts() { return [this.text]; } };
+    const { kept, left } = computedPools(osd?.pools ?? pools, (id) => dump.rules.get(id), dump.file, dump);
+    const written = textsOf(dump, kept, osd ? [...osd.states.keys()].filter((id) => !dump.devices.has(id)) : []);
+    return { name: files.crush.name, ...written, text: written.texts[0], more: 0, dump, left };
 }
 
 // Imports a map as the next version. Gives its number, or throws what is to be shown.
@@ -59,42 +83,32 @@ export class Refused extends Error {
     }
 }
 
-export async function importMap(tenant, { name, text }, take) {
-    if (text.length > LONGEST_BODY) throw new Fault(`${name} isn't sent: it is longer than the 5,242,880 bytes that a request may have.`);
+// Imports a map as the next version; its other texts go to tenants of their own.
+export async function importMap(tenant, map, take) {
+    const { name, text } = map;
+    for (const it of map.texts) if (it.length > LONGEST_BODY) throw new Fault(`${name} isn't sent: it is longer than the 5,242,880 bytes that a request may have.`);
     const reply = await change(`Import ${name}`, tenant, "maps", { text }, { file: name });
     if (reply.status === 201) return reply.version;
-    throw new Refused(reply.error === "map_refused" ? faultOf({ name, text, reply }, take) : fault(`${name} isn't imported. `, meaning(reply.status, reply.error)));
+    throw new Refused(reply.error === "map_refused" ? faultOf({ ...map, reply }, take) : fault(`${name} isn't imported. `, meaning(reply.status, reply.error)));
 }
 
-// ---- pools, states and upmap items of osd.json
-
-// Why a pool isn't computed, or null. `rules` are those of the map that the service has, `pairs`
-// the pool's upmap items.
-function poolFault(pool, dump, rules, file, pairs) {
-    if (pairs.length > PAIRS) return `it has ${many(pairs.length, "pair")} of upmap items, and the service takes ${count(PAIRS)} at once; crushplan sets them part by part`;
-    const rule = dump ? dump.rules.get(pool.rule) : rules.get(pool.rule);
-    if (!rule) return `${file} lacks its rule ${pool.rule}`;
-    if (pool.kind.startsWith("of type")) return `it is a pool ${pool.kind}`;
-    if (!(pool.size >= 1 && pool.size <= SIZE)) return `its size is ${pool.size}, and crushcalc takes 1 to ${SIZE}`;
-    if (!(pool.pg_num >= 1 && pool.pg_num <= GROUPS && pool.pgp_num >= 1 && pool.pgp_num <= pool.pg_num)) return `it has ${pool.pg_num} groups, ${pool.pgp_num} by pgp_num, and crushcalc takes 1 to ${count(GROUPS)}`;
-    if (pool.kind !== rule.kind) return `it is ${pool.kind}, and its rule ${rule.name} is for ${rule.kind} pools: Ceph then finds no rule`;
-    if (rule.sizes && (pool.size < rule.sizes[0] || pool.size > rule.sizes[1])) return `its size ${pool.size} isn't within ${rule.sizes[0]} to ${rule.sizes[1]} of its rule ${rule.name}: Ceph then finds no rule`;
-    return dump && ruleFault(dump, rule);
-}
+// ---- pools, states and exceptions of osd.json
 
 // What the dump has that placements here don't have, each with the pools, groups and devices that
 // it touches.
-function oddities(osd, dump) {
-    const lines = [], groups = (all) => some(all.map(([pool, group]) => `${pool}.${group.toString(16)}`)), note = (all, has, what) => all.length && lines.push(`${many(all.length, "group")} with ${has}: ${groups(all)}; ${what}`);
+function oddities(osd, dump, pools) {
+    const lines = [], groups = (all) => some(all.map(([pool, group]) => `${pool}.${group.toString(16)}`)), said = (all, has, what) => all.length && lines.push(`${many(all.length, "group")} with ${has}: ${groups(all)}; ${what}`);
     for (const it of osd.pools) {
         if (it.splits) lines.push(`pool ${it.name} is being split or merged (pg_num ${it.pg_num} on its way to ${it.splits[0]}, pgp_num ${it.pgp_num} to ${it.splits[1]}): it is computed as it is now, and its groups move by themselves`);
         if (it.hash !== RJENKINS) lines.push(`pool ${it.name} has another object hash than rjenkins: where its groups lie is computed, where its objects lie isn't`);
+        if (it.stretched) lines.push(`pool ${it.name} is stretched over sites: where its groups lie is computed, and whether the I/O of a group stops isn't, since it also stops where a site has no copy`);
     }
-    note(osd.lists.map((it) => it.at), "whole upmap lists (pg_upmap)", "where they lie isn't computed: they count where their rule puts them, and stand in no list of moves");
-    note(osd.temporary.lists, "a temporary list (pg_temp)", "what is said is where they lie once that is over");
-    note(osd.temporary.primaries, "a temporary primary (primary_temp)", "what is said is where they lie once that is over");
-    if (osd.affine.length) lines.push(`${some(osd.affine.map((it) => `osd.${it}`))} ${osd.affine.length === 1 ? "has" : "have"} a primary affinity other than 1: the primaries of their groups, and the order of the lists of replicated pools, are others in the cluster`);
-    for (const key of dump?.weightSets ?? []) lines.push(`there is a weight set (choose_args ${key}); Ceph uses it in straw2 buckets alone, so it changes nothing in the pools that are computed`);
+    said(osd.temporary.lists, "a temporary list (pg_temp)", "what is said is where they lie once that is over");
+    said(osd.temporary.primaries, "a temporary primary (primary_temp)", "what is said is where they lie once that is over");
+    for (const [key, own] of dump?.weightSets ?? []) {
+        const in_use = pools.filter((it) => keyOf(dump, it.id) === key && rowsOf(dump, key, reachOf(dump, dump.rules.get(it.rule)).buckets).size);
+        if (own.rounded && in_use.length) lines.push(`${dump.file} has rounded weights of 256 and more in the weight set choose_args ${key}: a few groups of ${some(in_use.map((it) => it.name))} may lie otherwise`);
+    }
     return lines;
 }
 
@@ -104,21 +118,24 @@ function statesOf(osd, map) {
     return new Map([...osd.states, ...placed.map((it) => [it.id, { reweight: 0, up: false }])]);
 }
 
-async function setStates(tenant, states, map, before) {
-    const wanted = [...states].filter(([id]) => map.byId.has(id)).map(([id, it]) => ({ id, ...it }));
-    const whole = (it) => it.reweight === 65536 && it.up, changes = before.whole ? wanted.filter((it) => !whole(it)) : wanted;
-    for (const part of parts(changes)) good(await change("Set the states of devices", tenant, "devices", { devices: part }, {}), "The states of devices");
-    return wanted.filter((it) => !whole(it)).length;
+// Sets states in the cluster's own tenant, and in those of its other texts, which are new.
+async function setAllStates(cluster, states, { whole: isNew }) {
+    const { tenant, map, texts } = cluster, wanted = [...states].filter(([id]) => map.byId.has(id)).map(([id, it]) => ({ id, ...it }));
+    const whole = (it) => it.reweight === 65536 && it.up, changed = wanted.filter((it) => !whole(it)), [own, ...others] = texts;
+    good(await setStates(tenant, [own], isNew ? changed : wanted), "The states of devices");
+    good(await setStates(tenant, others, changed), "The states of devices");
+    return changed.length;
 }
 
 async function makePool(tenant, pool) {
-    const body = poolBody(pool), send = () => change(`Make the pool ${pool.name}`, tenant, "pools", body, { min_size: pool.min_size }), same = (it) => JSON.stringify(poolBody(it)) === JSON.stringify(body);
+    const at = tenantWith(tenant, known(tenant), pool), noted = (more) => noteFor(tenant, at, more);
+    const body = poolBody(pool), send = () => change(`Make the pool ${pool.name}`, at, "pools", body, noted({ min_size: pool.min_size })), same = (it) => JSON.stringify(poolBody(it)) === JSON.stringify(body);
     const there = known(tenant).pools.find((it) => it.id === pool.id);
     if (there && same(there)) return note(tenant, { pools: known(tenant).pools.map((it) => (it.id === pool.id ? { ...it, min_size: pool.min_size } : it)) });
-    if (there) good(await change(`Remove the pool ${there.name}`, tenant, "pools/remove", { id: pool.id }, {}), `The pool ${there.name}`);
+    if (there) good(await change(`Remove the pool ${there.name}`, at, "pools/remove", { id: pool.id }, noted()), `The pool ${there.name}`);
     let reply = await send();
     if (reply.error === "exists" && !there) {
-        await change(`Remove the pool ${pool.name}`, tenant, "pools/remove", { id: pool.id }, {});
+        await change(`Remove the pool ${pool.name}`, at, "pools/remove", { id: pool.id }, noted());
         reply = await send();
     }
     return good(reply, `The pool ${pool.name}`);
@@ -132,52 +149,98 @@ function pairsOf(osd, pool, map) {
 // The devices that a pool which isn't computed may have: those below what its rule takes; none
 // where that isn't known, and then it may have any.
 function reached({ rule }, map, dump) {
-    if (dump) return dump.rules.has(rule) ? [...devicesOf(dump, dump.rules.get(rule))] : [];
+    if (dump) return dump.rules.has(rule) ? [...reachOf(dump, dump.rules.get(rule)).devices] : [];
     const takes = map.rules.find((it) => it.id === rule)?.steps.filter(([op]) => op === "take").map((it) => it[1]) ?? [];
     return takes.flatMap((it) => (map.all.has(it) ? devicesBelow(map.all.get(it)).map((one) => one.id) : [map.devices.get(it)?.id].filter((id) => id !== undefined)));
 }
 
-// Sets what osd.json says on a tenant that has its map. `name` is the file of the map that came
-// with it, and `dump` what that says, where it is a dump.
-export async function takeOsd(tenant, map, osd, { dump, name }, fresh, work) {
-    const rules = new Map(map.rules.map((it) => [it.id, it])), pairs = new Map(osd.pools.map((it) => [it, pairsOf(osd, it, map)]));
-    const faults = new Map(osd.pools.map((it) => [it, poolFault(it, dump, rules, dump?.file ?? "the map", pairs.get(it))]).filter(([, why]) => why));
-    const left = [...faults].map(([it, why]) => ({ pool: it.id, devices: reached(it, map, dump), text: `pool ${it.name} (${it.id}) isn't computed: ${why}` })), lines = [...left.map((it) => it.text), ...oddities(osd, dump)];
-    work.step("Setting the states of devices");
-    const states = await setStates(tenant, statesOf(osd, map), map, { whole: fresh }), lacking = [...osd.states.keys()].filter((id) => !map.byId.has(id));
-    if (lacking.length) lines.push(`${osd.file} has devices that the map lacks; they hold nothing: ${some(lacking.map((it) => `osd.${it}`))}`);
-    if (name && !dump) lines.push(`${name} has weights that 'crushtool -d' rounded to three decimals; crush.json ('ceph osd crush dump -f json') has exact ones`);
-    const pools = osd.pools.filter((it) => !faults.has(it));
-    const wholeOf = (pool) => osd.lists.filter(({ at }) => at[0] === pool.id && at[1] < pool.pg_num).map(({ at, devices }) => ({ group: at[1], devices }));
-    let set = 0;
-    // the tenant has the pools of the dump then, and no other
-    for (const it of known(tenant).pools.filter((one) => !pools.some((pool) => pool.id === one.id))) {
+// The devices that a flag keeps in: of a device, a bucket, or a class by its name.
+function flagged(name, map, dump) {
+    const class_ = /^the class (.*)$/.exec(name)?.[1];
+    if (class_ !== undefined) return [...dump?.classes ?? []].filter(([, it]) => it === class_).map(([id]) => id);
+    return map.buckets.has(name) ? devicesBelow(map.buckets.get(name)).map((it) => it.id) : map.devices.has(name) ? [map.devices.get(name).id] : [];
+}
+
+// What of a dump the service doesn't know, by pool.
+function exceptionsOf(osd, pools, pairs) {
+    const by = (list, make) => Object.fromEntries(pools.map((pool) => [pool.id, list.filter(({ at }) => at[0] === pool.id && at[1] < pool.pg_num).map(make)]).filter(([, own]) => own.length));
+    const primaries = Object.entries(by(osd.primaries, ({ at, device }) => [at[1], device])).map(([id, own]) => [id, Object.fromEntries(own)]), batched = pools.filter((it) => pairs.get(it).length > PAIRS);
+    return {
+        whole: by(osd.lists, ({ at, devices }) => ({ group: at[1], devices })), primaries: Object.fromEntries(primaries), affinity: osd.affinity,
+        pairs: Object.fromEntries(batched.map((it) => [it.id, pairs.get(it).map(({ group, from, to }) => [group, from, to])])), moving: by(osd.temporary.lists.map((at) => ({ at })), ({ at }) => at[1]),
+    };
+}
+
+// Takes away what stands of pools that the dump lacks, or that get another text.
+async function removeOthers(tenant, before, pools, work) {
+    for (const it of known(tenant).pools.filter((one) => before[one.id] || known(tenant).sides[one.id] || !pools.some((pool) => pool.id === one.id))) {
         work.step(`Removing the pool ${it.name}`);
-        good(await change(`Remove the pool ${it.name}`, tenant, "pools/remove", { id: it.id }, {}), `The pool ${it.name}`);
+        // that of another text went with its tenant
+        if (before[it.id]) note(tenant, { pools: known(tenant).pools.filter((one) => one.id !== it.id) });
+        else good(await change(`Remove the pool ${it.name}`, tenant, "pools/remove", { id: it.id }, {}), `The pool ${it.name}`);
     }
+}
+
+// Sets what osd.json says on a cluster that has its map. `map` is that of the files, with its texts,
+// or null where osd.json came alone. `open` opens the cluster anew.
+export async function takeOsd(tenant, osd, map, fresh, open, work) {
+    const before = known(tenant).sides;
+    if (!map && known(tenant).texts > 1) throw new Fault("This cluster's map has several texts: drop crush.json too.");
+    if (map) {
+        work.step("Making the other texts of the map");
+        await makeSides(tenant, map);
+    }
+    const cluster = await open(), on = cluster.map, dump = map?.dump;
+    const rules = new Map(on.rules.map((it) => [it.id, it])), { kept: pools, left: faults } = dump ? computedPools(osd.pools, (id) => dump.rules.get(id), dump.file, dump) : computedPools(osd.pools, (id) => rules.get(id), "the map", null);
+    const pairs = new Map(pools.map((it) => [it, pairsOf(osd, it, on)]));
+    const left = [...faults].map(([it, why]) => ({ pool: it.id, devices: reached(it, on, dump), text: `pool ${it.name} (${it.id}) isn't computed: ${why}` })), lines = [...left.map((it) => it.text), ...oddities(osd, dump, pools)];
+    work.step("Setting the states of devices");
+    const states = await setAllStates(cluster, statesOf(osd, on), { whole: fresh }), lacking = [...osd.states.keys()].filter((id) => !on.byId.has(id));
+    if (lacking.length) lines.push(`${osd.file} has devices that the map lacks; they hold nothing: ${some(lacking.map((it) => `osd.${it}`))}`);
+    if (map && !dump) lines.push(`${map.name} has weights that 'crushtool -d' rounded to three decimals; crush.json ('ceph osd crush dump -f json') has exact ones`);
+    // the tenant has the pools of the dump then, and no other
+    await removeOthers(tenant, map ? before : {}, pools, work);
+    const own = exceptionsOf(osd, pools, pairs);
+    let set = 0;
     for (const pool of pools) {
         work.step(`Making the pool ${pool.name}`);
         await makePool(tenant, pool);
-        const all = pairs.get(pool);
-        if (all.length || !fresh) good(await change(`Set the upmap items of ${pool.name}`, tenant, "pools/exceptions", { id: pool.id, exceptions: all }, {}), `The upmap items of ${pool.name}`);
+        const all = pairs.get(pool), sent = own.pairs[pool.id] ? [] : all, at = tenantWith(tenant, known(tenant), pool);
+        if (sent.length || !fresh) good(await change(`Set the upmap items of ${pool.name}`, at, "pools/exceptions", { id: pool.id, exceptions: sent }, noteFor(tenant, at)), `The upmap items of ${pool.name}`);
         set += all.length;
     }
-    note(tenant, { notes: lines, left, whole: Object.fromEntries(pools.map((it) => [it.id, wholeOf(it)]).filter(([, own]) => own.length)) });
+    note(tenant, {
+        notes: lines, left, ...own, ratios: osd.ratios, stretched: pools.filter((it) => it.stretched).map((it) => it.id), splits: pools.filter((it) => it.splits).map((it) => it.id), flags: osd.flags,
+        noout: osd.noout.map((name) => [name, flagged(name, on, dump)]), bytes: {}, rooms: {}, lying: null, doubt: null,
+    });
     return `${pools.length < osd.pools.length ? `${count(pools.length)} of ` : ""}${many(osd.pools.length, "pool")}, ${many(states, "device")} with a reweight or down, ${many(set, "upmap item")}`;
 }
 
 // ---- the other files
 
-export async function takeStates(tenant, { name, text }) {
-    const reply = await change(`Set the states of ${name}`, tenant, "devices/csv", { csv: text }, {});
+// Takes what df.json and osd-df.json say of bytes, where they are there.
+export function takeRooms(tenant, { df, osdDf }, osd) {
+    const fields = {}, notes = [];
+    if (df) fields.bytes = readDf(df.whole, df.name, osd?.pools ?? known(tenant).pools);
+    if (osdDf) {
+        const { rooms, odd } = readOsdDf(osdDf.whole, osdDf.name);
+        fields.rooms = rooms;
+        if (odd.length) notes.push(`${osdDf.name} has no number of how full ${some(odd)} ${odd.length === 1 ? "is" : "are"} (nan)`);
+    }
+    if (df || osdDf) note(tenant, { ...fields, notes: [...known(tenant).notes, ...notes] });
+}
+
+export async function takeStates(cluster, { name, text }) {
+    const { tenant } = cluster, reply = await change(`Set the states of ${name}`, tenant, "devices/csv", { csv: text }, {});
     if (reply.status !== 200) return fault(`The states of ${name} aren't set. `, meaning(reply.status, reply.error));
+    good(await setStates(tenant, [...cluster.texts].slice(1), statesIn(text).map(([id, it]) => ({ id, ...it }))), "The states of devices");
     return el("p", { class: "done" }, `The states of ${name} are set: ${reply.devices} devices.`);
 }
 
 // What this browser knows of a tenant, as a file for another one.
 export function savedOf(tenant) {
-    const { pools, states, files, seen, notes, left, whole } = known(tenant);
-    return JSON.stringify({ crushcalc: 1, tenant, seen, pools, states, files, notes, left, whole }, null, 1);
+    const it = known(tenant), fields = ["seen", "pools", "states", "files", ...SAID];
+    return JSON.stringify({ crushcalc: 1, tenant, ...Object.fromEntries(fields.map((name) => [name, it[name]])) }, null, 1);
 }
 
 // Takes over what another browser knew: it is confirmed where the cluster wasn't changed since.
@@ -185,6 +248,6 @@ export function takeSaved({ name, text }, summary) {
     const it = JSON.parse(text);
     if (it.crushcalc !== 1 || !Array.isArray(it.pools) || typeof it.states !== "object") throw new Fault(`${name} isn't a file that this page saved.`);
     if (it.tenant !== summary.tenant) throw new Fault(`${name} is of the cluster ${it.tenant}, not of ${summary.tenant}.`);
-    note(summary.tenant, { pools: it.pools, states: it.states, files: it.files ?? {}, notes: it.notes ?? [], left: it.left ?? [], whole: it.whole ?? {}, seen: it.seen });
+    note(summary.tenant, { pools: it.pools, states: it.states, files: it.files ?? {}, seen: it.seen, ...Object.fromEntries(SAID.filter((one) => one in it).map((one) => [one, it[one]])) });
     return el("p", { class: "done" }, `${name} is read: ${many(it.pools.length, "pool")} and the states of ${many(Object.keys(it.states).length, "device")}.`);
 }

@@ -1,16 +1,17 @@
 // Two maps compared: two versions, or the newest one and a map that is tried in a copy and doesn't
 // become a version. What moves in all, and what each place gains and loses.
 import { ask, change } from "./service.js";
-import { good, report, stagesOf, wholeLists } from "./answer.js";
+import { good, report, stagesOf } from "./answer.js";
 import { meaning } from "./codes.js";
 import { button, csv, el, fault, labelled, options } from "./dom.js";
-import { answerRow, beforeAfter, changePicture, groupsFolded, leftOutNote, legend, poolLines, totals, verdict } from "./change_view.js";
-import { count, figures } from "./figures.js";
+import { answerRow, beforeAfter, beside, changePicture, groupsFolded, leftOutNote, legend, poolLines, totals, verdict } from "./change_view.js";
+import { figures } from "./figures.js";
+import { count, many, some } from "./words.js";
 import { faultOf } from "./refused.js";
-import { readMap } from "./map.js";
+import { devicesIn, readMap } from "./map.js";
 import { DEVICE_HEADS, deviceFields, placesTable } from "./places.js";
 import { decimals } from "./shares.js";
-import { usagesOf } from "./usage.js";
+import { exceptionsOf, usagesOf } from "./usage.js";
 import { leftOut, missing, poolPicker, poolsChosen } from "./view_pools.js";
 import { filling } from "./waiting.js";
 
@@ -39,49 +40,59 @@ function gainsAndLosses(cluster, found, name, expected) {
 
 // Two versions, by the service's own report: each with the states of now.
 async function versions(cluster, from, to, work) {
-    const pools = poolsChosen(cluster), found = [], name = `${cluster.tenant}-${from}-${to}`;
+    const { known } = cluster, pools = poolsChosen(cluster).filter((it) => !known.sides[it.id]), found = [], name = `${cluster.tenant}-${from}-${to}`, others = poolsChosen(cluster).filter((it) => known.sides[it.id]);
+    let without = 0;
     for (const pool of pools) {
         work.step(`What moves: ${pool.name}`);
-        const but = wholeLists(cluster, pool).map((it) => it.group), said = await report("moves", "Compare two versions", `/t/${cluster.tenant}/pools/${pool.id}/moves/${from}/${to}`, { pool, but }, work.signal);
+        const exceptions = await exceptionsOf(cluster, pool, work), but = [...new Set([...exceptions.others(), ...exceptions.pairs.keys()])], said = await report("moves", "Compare two versions", `${cluster.path(pool)}/moves/${from}/${to}`, { pool, but, affinity: known.affinity }, work.signal);
+        without += but.length;
         // the report has the pool's number in a field of this name
         found.push({ ...said, pool });
     }
     const { expected } = await usagesOf(cluster, pools, work);
     const moved = found.reduce((sum, it) => sum + it.moved, 0), anew = found.reduce((sum, it) => sum + it.anew, 0);
-    return [figures([[moved, moved === 1 ? "group moves" : "groups move", "", "moved"], [anew, anew === 1 ? "copy is written anew" : "copies are written anew", "", "anew"]], "answer"),
+    const lacks = [others.length > 0 && `Versions are compared of the map's first text, which ${some(others.map((it) => it.name))} ${others.length === 1 ? "isn't" : "aren't"} computed on: drop the other map to compare it.`,
+        without > 0 && `${many(without, "group")} with whole lists, set primaries, or more upmap items than the service takes at once ${without === 1 ? "isn't" : "aren't"} compared here: drop the other map to compare it.`].filter(Boolean);
+    return [...lacks.map((it) => el("p", { class: "note" }, it)), figures([[moved, moved === 1 ? "group moves" : "groups move", "", "moved"], [anew, anew === 1 ? "copy is written anew" : "copies are written anew", "", "anew"]], "answer"),
         ...moved ? [...gainsAndLosses(cluster, found, name, expected), groupsFolded(cluster, found, [`on version ${from}`, `on version ${to}`], name)] : [el("p", { class: "done" }, "No group moves: each lies as before.")]];
 }
 
 // A map that is tried in a copy, beside the newest version.
-async function tried(cluster, { name, text }, refresh, work) {
-    const pools = poolsChosen(cluster), states = cluster.known.states;
-    let other = null;
-    const refusals = [], [found] = await stagesOf(cluster, pools, [{
-        words: `With ${name}`,
-        async change(copy) {
-            const reply = await change(`Try ${name} in a copy`, copy.name, "maps", { text }, { copy: true });
-            if (reply.error === "map_refused") refusals.push(faultOf({ name, text, reply }));
+async function tried(cluster, file, refresh, work) {
+    const { name } = file, computed = (pool) => !file.dump || pool.id in file.places, pools = poolsChosen(cluster).filter(computed), { states } = cluster.known;
+    const without = poolsChosen(cluster).filter((it) => !computed(it)), why = (pool) => [...file.left].find(([it]) => it.id === pool.id)?.[1], lacks = [...leftOut(cluster), ...without.map((it) => ({ text: `pool ${it.name} (${it.id}) isn't computed on ${name}: ${why(it)}` }))];
+    if (!pools.length) return [el("p", { class: "verdict unknown", id: "verdict" }, el("strong", {}, "Unknown"), ": no pool can be computed."), leftOutNote(lacks)];
+    const refusals = [];
+    // of several texts the first ones have the map's own weights
+    let other = file.texts.length > 1 ? readMap(...file.texts.slice(0, file.shown)) : null;
+    const later = file.dump ? { texts: file.texts, places: file.places } : { texts: [file.text], places: Object.fromEntries(pools.map((it) => [it.id, 0])) };
+    const [found] = await stagesOf(cluster, pools, [{
+        words: `With ${name}`, states,
+        async change(copy, group) {
+            const reply = await change(`Try ${name} in a copy`, copy.name, "maps", { text: group.later }, { copy: true });
+            if (reply.error === "map_refused") refusals.push(faultOf({ ...file, text: group.later, reply }));
             if (reply.status !== 201) throw new Error(`${name}: ${meaning(reply.status, reply.error)}`);
-            other = readMap(good(await ask(`Read ${name} as the service has it`, "GET", `/t/${copy.name}/maps/${reply.version}`), name).text);
+            other ??= readMap(good(await ask(`Read ${name} as the service has it`, "GET", `/t/${copy.name}/maps/${reply.version}`), name).text);
+            copy.devices = devicesIn(group.later);
             return reply.version;
         },
         then: () => ({ states, map: other }),
-    }], work).catch((why) => {
+    }], work, later).catch((fault) => {
         if (refusals.length) return [null];
-        throw why;
+        throw fault;
     });
     if (!found) return refusals;
     const both = { ...cluster, map: union(cluster.map, other) }, all = totals(cluster, found, { before: states, after: states, map: other });
     both.name = (id) => both.map.byId.get(id)?.name ?? cluster.name(id);
-    const file = `${cluster.tenant}-${name}`;
-    const keep = button(`Make it version ${cluster.summary.versions + 1}`, async () => {
-        const reply = await change(`Import ${name}`, cluster.tenant, "maps", { text }, { file: name });
+    const saved = `${cluster.tenant}-${name}`;
+    const keep = (file.texts.length > 1 || cluster.known.texts > 1) ? "Its map has several texts: drop it with osd.json to take it." : button(`Make it version ${cluster.summary.versions + 1}`, async () => {
+        const reply = await change(`Import ${name}`, cluster.tenant, "maps", { text: file.text }, { file: name });
         if (reply.status === 201) return refresh();
         keep.after(fault(meaning(reply.status, reply.error)));
         return undefined;
     }, { id: "keep" });
     return [el("h2", { class: "title" }, `Version ${cluster.summary.versions} and ${name}`), el("p", { class: "hint" }, `${name} was tried in a copy: the newest version is ${cluster.summary.versions} as before. `, keep),
-        verdict(found, all, { unknown: leftOut(cluster).length }), leftOutNote(leftOut(cluster)), answerRow(both, all), poolLines(found), changePicture(both, all), beforeAfter(both, all, file), groupsFolded(both, found, ["now", `by ${name}`], file)];
+        verdict(both, found, all, { unknown: lacks.length }), leftOutNote(lacks), beside(all), answerRow(both, all), poolLines(found), changePicture(both, all), beforeAfter(both, all, saved), groupsFolded(both, found, ["now", `by ${name}`], saved)];
 }
 
 // The places of both maps: those of the other one, and what it lacks of the first.

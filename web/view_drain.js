@@ -1,13 +1,15 @@
 // A drain or a failure on paper: the answer first, then the usage before and after, then the
 // groups.
 import { button, el, fault, labelled, options, pause, sayDone } from "./dom.js";
-import { canMove, stagesOf, unknownGroups, wholeLists } from "./answer.js";
-import { answerRow, beforeAfter, changePicture, groupsFolded, leftOutNote, poolLines, totals, verdict } from "./change_view.js";
-import { count, figures, many } from "./figures.js";
+import { canMove, stagesOf } from "./answer.js";
+import { answerRow, beforeAfter, beside, changePicture, groupsFolded, leftOutNote, poolLines, totals, verdict } from "./change_view.js";
+import { figures } from "./figures.js";
+import { count, many, some } from "./words.js";
 import { namesOf, picker } from "./picker.js";
 import { leftOut, missing, poolsChosen, poolPicker } from "./view_pools.js";
 import { Stopped, working } from "./waiting.js";
 
+const HOLDING = ["norebalance", "nobackfill", "norecover"];
 const WAYS = { drain: "Drain: they are taken out, as by ceph osd out", fail: "Fail: they go down at once, and are taken out later" };
 
 // The states that the cluster has when these devices are out.
@@ -18,9 +20,27 @@ function statesAfter(cluster, ids, down) {
 }
 
 function stages(cluster, ids, fails) {
-    const out = { words: "With the devices out", change: (copy) => copy.states(ids.map((id) => ({ id, reweight: 0 }))), then: () => ({ ids: new Set(ids), states: statesAfter(cluster, ids, fails) }) };
-    const down = { words: "With the devices down", change: (copy) => copy.states(ids.map((id) => ({ id, up: false }))) };
+    const states = statesAfter(cluster, ids, fails), out = { words: "With the devices out", states, change: (copy) => copy.states(ids.map((id) => ({ id, reweight: 0 }))), then: () => ({ ids: new Set(ids), states }) };
+    const down = { words: "With the devices down", states: statesDown(cluster, ids), change: (copy) => copy.states(ids.map((id) => ({ id, up: false }))) };
     return fails ? [down, out] : [out];
+}
+
+function statesDown(cluster, ids) {
+    return { ...cluster.known.states, ...Object.fromEntries(ids.map((id) => [id, { reweight: 65536, ...cluster.known.states[id], up: false }])) };
+}
+
+// Flags of the cluster, while which Ceph doesn't do by itself what is computed.
+function flagsOf({ known }, ids, fails) {
+    const flags = known.flags.filter((it) => [...HOLDING, ...fails ? ["noout"] : []].includes(it)), own = fails ? known.noout.filter(([, devices]) => devices.some((id) => ids.includes(id))).map(([name]) => name) : [];
+    return [
+        flags.length > 0 && `osd.json has the ${flags.length === 1 ? "flag" : "flags"} ${some(flags)}: until Ceph is without ${flags.length === 1 ? "it" : "them"}, it doesn't do all of this`,
+        own.length > 0 && `osd.json has the flag noout of ${some(own)}: Ceph marks out none of ${own.length === 1 ? "its" : "their"} devices by itself`,
+    ];
+}
+
+// Pools whose groups may stop for another reason than is counted.
+function stretchedOf({ known }, pools) {
+    return pools.filter((it) => known.stretched.includes(it.id)).map((it) => ({ text: `pool ${it.name} (${it.id}) is stretched over sites: a group of it also stops where a site has no copy, which isn't computed` }));
 }
 
 // What holds while the devices are down and not out yet.
@@ -42,7 +62,6 @@ function proved(cluster, pools, ids) {
         return canMove(cluster, pools, ids, work, () => said.isConnected);
     };
     working("Which groups can move", asks).then((lists) => {
-        for (const pool of pools) for (const { group } of wholeLists(cluster, pool)) lists.get(pool.id).delete(group);
         const all = [...lists.values()].reduce((sum, it) => sum + it.size, 0);
         said.replaceChildren(`Proved: no group moves but the ${count(all)} of the impact lists, while only the reweights of these devices are lowered.`);
     }).catch((why) => said.replaceChildren(fault(why.message)));
@@ -55,15 +74,15 @@ function stay(cluster, ids, found) {
     return found.reduce((all, it) => all + ids.filter((id) => taken(it).has(id)).reduce((sum, id) => sum + (it.has[id] ?? 0), 0), 0);
 }
 
-function shown(cluster, pools, ids, fails, results, groups) {
-    const lacks = leftOut(cluster, ids), found = results.at(-1), names = namesOf(cluster, ids).join(", "), chosen = new Set(ids);
+function shown(cluster, pools, ids, fails, results) {
+    const lacks = [...leftOut(cluster, ids), ...fails ? stretchedOf(cluster, pools) : []], found = results.at(-1), names = namesOf(cluster, ids).join(", "), chosen = new Set(ids);
     const all = totals(cluster, found, { before: cluster.known.states, after: statesAfter(cluster, ids, fails) });
     const mark = (place) => {
         const within = place.devices.filter((it) => chosen.has(it)).length, word = fails ? "failed" : "drained";
         return within > 0 && el("span", { class: "badge out" }, within === place.devices.length ? word : `${word} in part`);
     };
     const file = `${cluster.tenant}-${namesOf(cluster, ids)[0]}`, stopped = fails ? results[0].reduce((sum, it) => sum + it.lacks.stopped, 0) : 0;
-    return [el("h2", { class: "title", id: "answered", tabindex: "-1" }, `${fails ? "Failure" : "Drain"} of ${names}`), verdict(found, all, { stopped, keeping: stay(cluster, ids, found), unknown: lacks.length + groups }), leftOutNote(lacks, groups), fails && atOnce(results[0]), answerRow(cluster, all), proved(cluster, pools, ids), poolLines(found), el("h2", {}, "Usage before and after"), changePicture(cluster, all), beforeAfter(cluster, all, file, mark),
+    return [el("h2", { class: "title", id: "answered", tabindex: "-1" }, `${fails ? "Failure" : "Drain"} of ${names}`), verdict(cluster, found, all, { stopped, keeping: stay(cluster, ids, found), unknown: lacks.length }), leftOutNote(lacks), beside(all, flagsOf(cluster, ids, fails)), fails && atOnce(results[0]), answerRow(cluster, all), proved(cluster, pools, ids), poolLines(found), el("h2", {}, "Usage before and after"), changePicture(cluster, all), beforeAfter(cluster, all, file, mark),
         groupsFolded(cluster, found, ["before", "after"], file),
         el("p", { class: "hint" }, `Computed on a copy of the cluster on the service, which is dropped: neither your Ceph cluster nor what is kept here is changed. ${many(ids.length, "device")}, ${many(pools.length, "pool")}.`)].flat();
 }
@@ -96,9 +115,9 @@ export function showDrain(cluster, wanted = {}) {
         try {
             await working(fails ? "A failure on a copy" : "A drain on a copy", async (work) => {
                 running = work;
-                const results = await stagesOf(cluster, pools, stages(cluster, ids, fails), work), groups = await unknownGroups(cluster, pools, ids, work);
+                const results = await stagesOf(cluster, pools, stages(cluster, ids, fails), work);
                 work.goesOn();
-                at.replaceChildren(...shown(cluster, pools, ids, fails, results, groups).filter(Boolean));
+                at.replaceChildren(...shown(cluster, pools, ids, fails, results).filter(Boolean));
             });
             sayDone("The answer is there");
             if (at.getBoundingClientRect().top > window.innerHeight * 0.5) at.querySelector(".title").focus();

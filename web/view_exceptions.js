@@ -1,11 +1,15 @@
 // The exceptions of a pool, as Ceph has upmap items: written as lines, tried in a copy, set, and
 // taken back.
-import { ask, change } from "./service.js";
-import { breaking, good, stagesOf } from "./answer.js";
+import { change } from "./service.js";
+import { breaking, stagesOf } from "./answer.js";
+import { PAIRS, exceptionsIn } from "./copies.js";
+import { note } from "./known.js";
+import { byGroup } from "./lies.js";
+import { noteFor } from "./sides.js";
 import { meaning } from "./codes.js";
 import { answerRow, beforeAfter, groupsFolded, totals, verdict } from "./change_view.js";
 import { button, counted, el, fault, labelled } from "./dom.js";
-import { many } from "./figures.js";
+import { many } from "./words.js";
 import { groupOf, idOf } from "./groups.js";
 import { filling } from "./waiting.js";
 
@@ -55,7 +59,7 @@ function pairsIn(cluster, pool, text) {
 
 export function exceptionsView(cluster, pool, refresh) {
     const at = el("div"), key = `${cluster.tenant}/${pool.id}`;
-    filling(at, `Exceptions of ${pool.name}`, async (work) => editor(cluster, pool, key, good(await ask(`Exceptions of ${pool.name}`, "GET", `/t/${cluster.tenant}/pools/${pool.id}/exceptions`, undefined, work.signal), "The exceptions").exceptions, refresh));
+    filling(at, `Exceptions of ${pool.name}`, async (work) => editor(cluster, pool, key, await exceptionsIn(cluster, pool, work.signal), refresh));
     return at;
 }
 
@@ -72,11 +76,14 @@ function editor(cluster, pool, key, pairs, refresh) {
         }
     };
     async function set(list, old, words) {
-        const reply = await change(`Set the exceptions of ${pool.name}`, cluster.tenant, "pools/exceptions", { id: pool.id, exceptions: list }, {});
+        // what is more than the service takes is kept here, and set part by part
+        const many_ = list.length > PAIRS, at = cluster.of(pool), { pairs: others } = cluster.known;
+        const reply = await change(`Set the exceptions of ${pool.name}`, at, "pools/exceptions", { id: pool.id, exceptions: many_ ? [] : list }, noteFor(cluster.tenant, at));
         if (reply.status !== 200) return said.replaceChildren(fault("They aren't set. ", meaning(reply.status, reply.error)));
+        note(cluster.tenant, { pairs: { ...others, [pool.id]: many_ ? list.map((it) => [it.group, it.from, it.to]) : undefined } });
         if (old) before.set(key, old);
         else before.delete(key);
-        return refresh({ said: el("p", { class: "done" }, `${words} Pool ${pool.name} has ${many(reply.exceptions, "pair")}.`) });
+        return refresh({ said: el("p", { class: "done" }, `${words} Pool ${pool.name} has ${many(list.length, "pair")}.`) });
     }
     const tries = () => {
         const list = read();
@@ -93,13 +100,6 @@ function editor(cluster, pool, key, pairs, refresh) {
         el("div", { class: "buttons" }, button("Try them in a copy", tries, { id: "try", class: "main" }), button("Set them", sets, { id: "set" }), earlier && button("Take back what was set last", () => set(earlier, null, "The earlier ones are set again."), { id: "take-back" })), result];
 }
 
-// The pairs of each group, as they are written.
-function byGroup(pairs) {
-    const found = new Map();
-    for (const { group, from, to } of pairs) found.set(group, [...found.get(group) ?? [], [from, to]]);
-    return found;
-}
-
 // Those groups that have other pairs than before, and not none.
 function changed(before, now) {
     const old = byGroup(before);
@@ -108,13 +108,15 @@ function changed(before, now) {
 
 async function tried(cluster, pool, before, list, work) {
     let broken = 0;
-    const [found] = await stagesOf(cluster, [pool], [{
-        words: "With the exceptions",
-        async change(copy) {
-            await copy.exceptions(pool, list);
-            broken = await breaking(cluster, copy, pool, changed(before, list), work);
+    const { states } = cluster.known, [found] = await stagesOf(cluster, [pool], [{
+        words: "With the exceptions", states,
+        async change(copy, group, held) {
+            const own = held.get(pool.id).withPairs(list);
+            held.set(pool.id, own);
+            await copy.exceptions(pool, own.isBatched() ? [] : list);
+            broken = await breaking(cluster, copy, pool, changed(before, list), own, work);
         },
     }], work);
-    const states = cluster.known.states, all = totals(cluster, found, { before: states, after: states }), name = `${cluster.tenant}-${pool.name}-exceptions`;
-    return [el("h2", {}, "Beside what is set now"), verdict(found, all, { broken }), answerRow(cluster, all), beforeAfter(cluster, all, name), groupsFolded(cluster, found, ["now", "with them"], name)];
+    const all = totals(cluster, found, { before: states, after: states }), name = `${cluster.tenant}-${pool.name}-exceptions`;
+    return [el("h2", {}, "Beside what is set now"), verdict(cluster, found, all, { broken }), answerRow(cluster, all), beforeAfter(cluster, all, name), groupsFolded(cluster, found, ["now", "with them"], name)];
 }

@@ -1,11 +1,12 @@
 // The map: its picture, its tree with weights and states that can be changed, its versions; and
 // what of the cluster this browser knows.
-import { ask, change } from "./service.js";
+import { ask } from "./service.js";
 import { copiesOf, drop } from "./copies.js";
 import { meaning } from "./codes.js";
 import { button, csv, cut, el, fault, labelled, options, save, say, sayDone } from "./dom.js";
 import { removal } from "./removing.js";
-import { many } from "./figures.js";
+import { setStates } from "./sides.js";
+import { many } from "./words.js";
 import { pathOf, readMap } from "./map.js";
 import { DEVICE_HEADS, deviceFields } from "./places.js";
 import { picture } from "./picture.js";
@@ -18,14 +19,16 @@ import { filling, working } from "./waiting.js";
 // writes the states of a cluster's devices as the service takes them
 const STATES = 'ceph osd dump -f json | jq -r \'"id,reweight,up", (.osds[] | "\\(.osd),\\(.weight * 65536 | round),\\(.up)")\' >states.csv';
 const DUMPS = "ceph osd crush dump -f json >crush.json && ceph osd dump -f json >osd.json";
+const MORE = "ceph df detail -f json >df.json; ceph osd df -f json >osd-df.json; ceph pg dump pgs_brief -f json >pgs.json";
 
 // The place where files are dropped, or chosen.
 export function dropBox(take, more) {
     const input = el("input", { type: "file", id: "file", class: "file", multiple: true, on: { change: () => input.files.length && take([...input.files]) } });
     return el("div", { class: "drop" },
-        el("p", { class: "large" }, "Drop crush.json and osd.json here, both at once"),
+        el("p", { class: "large" }, "Drop crush.json and osd.json here, both at once, or the folder that crushplan fetch writes"),
         el("p", {}, el("span", { class: "choose" }, input, el("label", { for: "file" }, "or choose files"))),
         el("p", { class: "hint" }, "On the cluster this writes them, and changes nothing: ", el("code", {}, DUMPS)),
+        el("p", { class: "hint" }, "And what tells how full devices get, and whether groups lie as computed: ", el("code", {}, MORE)),
         el("p", { class: "hint" }, "Or a map text alone, as ", el("code", {}, "ceph osd getcrushmap -o map.bin && crushtool -d map.bin -o map.txt"), " writes it: its weights are rounded to three decimals, and those of crush.json are exact."), more);
 }
 
@@ -35,7 +38,7 @@ export function dropBox(take, more) {
 function stateButtons(cluster, device, refresh) {
     const { reweight, up } = stateOf(cluster.known.states, device.id), of = `of ${device.name}`;
     const set = async (fields, what) => {
-        const reply = await change(`${device.name} ${what}`, cluster.tenant, "devices", { devices: [{ id: device.id, ...fields }] }, {});
+        const reply = await setStates(cluster.tenant, cluster.texts, [{ id: device.id, ...fields }], `${device.name} ${what}`);
         if (reply.status === 200) {
             sayDone(`${device.name} is ${what}`);
             return refresh({ focus: `[data-device="${device.id}"] button` });
@@ -122,7 +125,7 @@ function tree(cluster, map, refresh) {
 // What the service has that this browser doesn't know.
 function unknown({ summary, known }) {
     const count = Object.keys(known.states).length;
-    if (summary.epoch === known.seen && summary.pools === known.pools.length) return null;
+    if (summary.epoch === known.seen && summary.pools === known.pools.filter((it) => !known.sides[it.id]).length) return null;
     const has = `The service keeps ${many(summary.pools, "pool")} and the states of ${many(summary.devices, "device")}; this browser knows ${many(known.pools.length, "pool")} and ${many(count, "state")}.`;
     return el("p", { class: "note", id: "unknown" }, `This cluster was changed by another browser or program. ${has} No request lists them: drop osd.json, a CSV of all states, or the file that the other browser saves. What is computed in a copy is compared with the service first.`);
 }
@@ -130,6 +133,14 @@ function unknown({ summary, known }) {
 function notesOf({ known }) {
     if (!known.notes.length) return null;
     return el("div", { class: "note", id: "not-computed" }, el("p", {}, el("strong", {}, "What the cluster has and isn't computed here")), el("ul", {}, known.notes.map((it) => el("li", {}, it))));
+}
+
+// Whether groups lie as computed, by the cluster's own word, or how it can be known.
+function lyingOf({ known }) {
+    if (!known.pools.length) return null;
+    if (!known.lying) return Object.keys(known.ratios).length ? el("p", { class: "hint", id: "lying" }, "Whether each group lies as computed is known with pgs.json: ", el("code", {}, "ceph pg dump pgs_brief -f json"), ".") : null;
+    const { text, lines, differ } = known.lying, said = `${text[0].toUpperCase()}${text.slice(1)}.`;
+    return el("div", { class: differ ? "note" : "hint", id: "lying" }, el("p", {}, differ ? el("strong", {}, said) : said), lines.length > 0 && el("details", {}, el("summary", {}, "Groups that lie otherwise in the cluster"), el("ul", {}, lines.map((it) => el("li", {}, it)))));
 }
 
 // Copies that a closed browser left: found by their names, and dropped when asked.
@@ -198,6 +209,6 @@ export function showMap(cluster, said, take, refresh) {
         at.append(el("p", { class: "empty" }, `${tenant} has no map yet. Drop one here, or delete ${tenant}, of which the service keeps nothing but the name.`), removal(cluster));
         return section;
     }
-    at.append(...[unknown(cluster), notesOf(cluster), pictureOf(cluster, section)].filter(Boolean), ...versionsOf(cluster, refresh), leftCopies(cluster), removal(cluster));
+    at.append(...[unknown(cluster), lyingOf(cluster), notesOf(cluster), pictureOf(cluster, section)].filter(Boolean), ...versionsOf(cluster, refresh), leftCopies(cluster), removal(cluster));
     return section;
 }

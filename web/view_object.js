@@ -3,8 +3,11 @@ import { ask } from "./service.js";
 import { meaning } from "./codes.js";
 import { el, fault, labelled, say } from "./dom.js";
 import { groupOf, idOf } from "./groups.js";
+import { settled, statesOn } from "./lies.js";
 import { pathOf } from "./map.js";
+import { exceptionsOf } from "./usage.js";
 import { missing, poolOf, poolPicker } from "./view_pools.js";
+import { quiet } from "./waiting.js";
 
 function placeOf(cluster, id) {
     const device = cluster.map.byId.get(id), host = device?.buckets[0];
@@ -25,6 +28,12 @@ function shown(cluster, pool, title, reply) {
         el("dl", { class: "facts" }, numbers.map(([text, value]) => el("div", {}, el("dt", {}, text), el("dd", {}, value)))));
 }
 
+// A group as Ceph puts it, with what the service doesn't know of it.
+async function asItLies(cluster, pool, reply) {
+    const exceptions = await exceptionsOf(cluster, pool, quiet(), true);
+    return settled(pool, reply, exceptions, statesOn(cluster.map, cluster.known.states), exceptions.isBatched());
+}
+
 export function showObject(cluster) {
     const section = el("section", {}, el("h1", { tabindex: "-1" }, "Object"));
     const lacks = missing(cluster);
@@ -35,9 +44,10 @@ export function showObject(cluster) {
     const name = el("input", { id: "object", autocomplete: "off" }), group = el("input", { id: "group", autocomplete: "off", required: true, on: { input: () => group.setCustomValidity("") } }), at = el("div");
     async function find(title, ask) {
         say("Asking");
-        const pool = poolOf(cluster), reply = await ask(`/t/${cluster.tenant}/pools/${pool.id}`);
+        const pool = poolOf(cluster), reply = await ask(cluster.path(pool));
+        const found = reply.status === 200 ? await asItLies(cluster, pool, reply) : null;
         say("");
-        at.replaceChildren(reply.status === 200 ? shown(cluster, pool, title, reply) : fault(meaning(reply.status, reply.error)));
+        at.replaceChildren(found ? shown(cluster, pool, title, found) : fault(meaning(reply.status, reply.error)));
     }
     const byName = (event) => {
         event.preventDefault();

@@ -3,8 +3,10 @@ import { ask, change } from "./service.js";
 import { meaning } from "./codes.js";
 import { button, counted, csv, el, fault, labelled, options, save, sayDone } from "./dom.js";
 import { exceptionsView } from "./view_exceptions.js";
-import { many } from "./figures.js";
+import { many } from "./words.js";
+import { exceptionsIn } from "./copies.js";
 import { note } from "./known.js";
+import { noteFor } from "./sides.js";
 
 // Ceph's defaults: osd_pool_default_size and _pg_num, and k=2 m=2 of the erasure code profile
 const SIZES = { replicated: 3, erasure: 4 }, GROUPS = 32;
@@ -62,9 +64,9 @@ export function showPools(cluster, message, refresh, more = "") {
 // Asks for the exceptions of one pool after the other: how many it has goes into its cell.
 async function countExceptions(cluster, cells) {
     for (const [pool, cell] of cells) {
-        const reply = await ask(`Exceptions of ${pool.name}`, "GET", `/t/${cluster.tenant}/pools/${pool.id}/exceptions`);
+        const found = await exceptionsIn(cluster, pool).catch((why) => why);
         if (!cell.isConnected) return;
-        cell.replaceChildren(reply.status === 200 ? el("a", { href: `#/${cluster.tenant}/pools/exceptions:${pool.id}`, "aria-label": `${reply.exceptions.length} exceptions of ${pool.name}: look at them` }, String(reply.exceptions.length)) : meaning(reply.status, reply.error));
+        cell.replaceChildren(Array.isArray(found) ? el("a", { href: `#/${cluster.tenant}/pools/exceptions:${pool.id}`, "aria-label": `${found.length} exceptions of ${pool.name}: look at them` }, String(found.length)) : found.message);
     }
 }
 
@@ -72,7 +74,7 @@ async function countExceptions(cluster, cells) {
 function poolRemoval(cluster, pool, refresh) {
     const remove = async () => {
         box.close();
-        const reply = await change(`Remove the pool ${pool.name}`, cluster.tenant, "pools/remove", { id: pool.id }, {});
+        const reply = await change(`Remove the pool ${pool.name}`, cluster.of(pool), "pools/remove", { id: pool.id }, noteFor(cluster.tenant, cluster.of(pool)));
         await refresh({ said: reply.status === 200 ? el("p", { class: "done" }, `The pool ${pool.name} is removed.`) : fault(`The pool ${pool.name} isn't removed. `, meaning(reply.status, reply.error)) });
     };
     const box = el("dialog", { "aria-label": `Remove ${pool.name}?` }, el("p", {}, `Remove the pool ${pool.name} here, with its exceptions? Your Ceph cluster isn't touched.`),
@@ -87,7 +89,7 @@ function list(cluster, refresh) {
     const rows = pools.map((it) => el("tr", { "data-pool": it.id }, el("td", { class: "number" }, it.id), el("th", { scope: "row" }, it.name), el("td", {}, it.kind),
         ...[it.size, it.min_size ?? "–", it.rule, it.pg_num, it.pgp_num].map((value) => el("td", { class: "number" }, value)), el("td", {}, it.hashpspool ? "yes" : "no"), cells.get(it), el("td", {}, poolRemoval(cluster, it, refresh))));
     const heads = ["id", "name", "kind", "size", "min_size", "rule", "pg_num", "pgp_num", "hashpspool"];
-    const others = cluster.summary.pools !== pools.length && el("p", { class: "note" }, `The service keeps ${many(cluster.summary.pools, "pool")} of this cluster, and this browser knows `
+    const others = cluster.summary.pools !== pools.filter((it) => !cluster.known.sides[it.id]).length && el("p", { class: "note" }, `The service keeps ${many(cluster.summary.pools, "pool")} of this cluster, and this browser knows `
         + `${pools.length}: the others were made elsewhere, and no request lists them. Drop osd.json or the file that the other browser saves; or fill in the form as such a pool was made, then you can say that it is there.`);
     const head = [...heads, "exceptions", ""].map((it) => el("th", { scope: "col", class: NUMBERS.has(it) && "number" }, it || el("span", { class: "sr" }, "remove")));
     const table = el("table", { class: "plain" }, el("caption", {}, counted("Pools", pools)), el("thead", {}, el("tr", {}, head)), el("tbody", {}, rows));

@@ -2,12 +2,14 @@
 // device.
 import { csv, el } from "./dom.js";
 import { legend } from "./change_view.js";
-import { count, figures } from "./figures.js";
+import { figures } from "./figures.js";
+import { count, sized } from "./words.js";
 import { picture } from "./picture.js";
 import { DEVICE_HEADS, deviceFields, isPlaced, placesTable } from "./places.js";
 import { decimals, partText, partsOf, percent, percentText } from "./shares.js";
 import { copiesIn, usagesOf } from "./usage.js";
 import { missing, poolPicker, poolsChosen } from "./view_pools.js";
+import { hundredths } from "./rooms.js";
 import { placeActions } from "./actions.js";
 import { filling } from "./waiting.js";
 
@@ -41,11 +43,23 @@ export async function sharePicture(cluster, work, actions, pools = cluster.known
     });
 }
 
+// What pools take on each device, by the part of their copies that it has.
+function bytesIn(pools, usages, bytes) {
+    const found = new Map();
+    pools.forEach((pool, place) => {
+        const whole = copiesIn(usages[place]);
+        for (const it of whole ? usages[place].rows : []) found.set(it.device, (found.get(it.device) ?? 0) + bytes[pool.id] * it.entries / whole);
+    });
+    return (id) => found.get(id) ?? 0;
+}
+
 async function shown(cluster, work) {
     const pools = poolsChosen(cluster), { usages, copies, expected, whole } = await usagesOf(cluster, pools, work);
     const lacks = pools.reduce((sum, it) => sum + it.size * it.pg_num, 0) - whole;
     const [most, least] = ends(cluster, copies, expected), name = pools.length === 1 ? pools[0].name : "all-pools";
-    const values = { copies: (id) => copies.get(id), expected: (id) => expected.get(id) };
+    const values = { copies: (id) => copies.get(id), expected: (id) => expected.get(id) }, { bytes, rooms } = cluster.known, known = pools.every((it) => (bytes[it.id] ?? null) !== null), used = Object.keys(rooms).length > 0;
+    if (known) values.bytes = bytesIn(pools, usages, bytes);
+    if (used) Object.assign(values, { held: (id) => rooms[id]?.[0], size: (id) => rooms[id]?.[1] });
     const share = (it) => percent(it.copies, it.expected);
     return [
         figures([[count(whole), "copies in all", "", "copies"], lacks > 0 && [count(lacks), "copies have no device", "bad", "missing"],
@@ -53,12 +67,13 @@ async function shown(cluster, work) {
         await sharePicture(cluster, work, placeActions(cluster), pools),
         placesTable(cluster, {
             values, top: (it) => Math.max(it.copies, it.expected),
-            columns: [{ head: "copies", text: (it) => count(it.copies) }, { head: "expected", text: (it) => decimals(it.expected, 2) }, { head: "of its share", text: (it) => percentText(it.copies, it.expected) }],
+            columns: [{ head: "copies", text: (it) => count(it.copies) }, { head: "expected", text: (it) => decimals(it.expected, 2) }, { head: "of its share", text: (it) => percentText(it.copies, it.expected) },
+                ...known ? [{ head: "bytes", text: (it) => sized(it.bytes) }] : [], ...used ? [{ head: "used", text: (it) => (it.size ? hundredths(it.held / it.size) : "–") }] : []],
             draw({ block, line }, it) {
                 block("used", 0, it.copies);
                 if (it.expected) line("even", it.expected);
             },
-            orders: [["most", "most of its share first", (it) => share(it) ?? -1], ["copies", "most copies first", (it) => it.copies]],
+            orders: [["most", "most of its share first", (it) => share(it) ?? -1], ["copies", "most copies first", (it) => it.copies], ...used ? [["full", "fullest first", (it) => (it.size ? it.held / it.size : -1)]] : []],
             legend: legend(["used", "copies"], ["even", "expected, by weight and reweight"]),
             file: { name: `usage-${cluster.tenant}-${name}.csv`, title: "Copies by place", text: () => usageCsv(cluster, pools, usages) },
         }),

@@ -79,4 +79,6 @@ def all_clusters():
     yield tree_of(Cluster("trees", "rack"), ["tree"] * 3, weight=uneven)
     yield tree_of(Cluster("mixed", "rack"), ("tree", "list", "uniform"), racks=6, weight=uneven)
     yield hosts_of(Cluster("hosts-alone", "host", LEGACY), ("tree", "list"), hosts=11, devices=5, weight=uneven)
+    yield tree_of(Cluster("straw2", "rack"), ["straw2"] * 3, weight=uneven)
+    yield tree_of(Cluster("straw2-and-others", "rack"), ("straw2", "tree", "straw2"), racks=5, devices=5, weight=lambda d: 0 if d % 11 == 3 else uneven(d))
     yield hosts_of(Cluster("few-hosts", "host"), ("uniform", "tree"), hosts=3, devices=6, weight=uneven)

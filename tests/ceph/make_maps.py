@@ -15,6 +15,9 @@ OSD, HOST, RACK, ROOT = 0, 1, 3, 10
 TYPES = {OSD: "osd", HOST: "host", RACK: "rack", ROOT: "root"}
 TUNABLES = ("choose_total_tries", "chooseleaf_descend_once", "chooseleaf_vary_r", "chooseleaf_stable")
 JEWEL, LEGACY = (50, 1, 1, 1), (19, 0, 0, 0)
+MARK = "# crushcalc: straw2"  # the first line of each text with straw2 buckets; crushtool passes over it
+KINDS = ("uniform", "list", "tree")
+WITH_STRAW2 = ("straw2", "straw2", "straw2", *KINDS)
 
 
 def weight_text(weight):
@@ -28,13 +31,19 @@ class Map:
     on."""
 
     def __init__(self, name, tunables=JEWEL):
-        self.name, self.tunables, self.devices = name, tunables, 0
+        self.name, self.tunables, self.devices, self.ids = name, tunables, 0, None
         self.buckets, self.reweights, self.steps, self.sizes, self.type_of, self.next = [], [], (), (3,), {}, -2
 
     def take_devices(self, count, weight=lambda d: ONE):
         first = self.devices
         self.devices += count
         return [(d, weight(d)) for d in range(first, first + count)]
+
+    def name_devices(self, entries):
+        """Devices of these ids, given with their weights, instead of those from 0 on."""
+        self.ids = sorted([*(self.ids or []), *(d for d, _ in entries)])
+        self.devices = self.ids[-1] + 1
+        return entries
 
     def bucket(self, kind, type_, entries, id_=None):
         if id_ is None:
@@ -66,9 +75,10 @@ class Map:
 
     def text(self):
         """The CRUSH map text; crushtool of release 16 wants the sizes in the rule."""
-        lines = ["# begin crush map", "tunable choose_local_tries 0", "tunable choose_local_fallback_tries 0"]
+        lines = [MARK] if any(kind == "straw2" for _, _, kind, _ in self.buckets) else []
+        lines += ["# begin crush map", "tunable choose_local_tries 0", "tunable choose_local_fallback_tries 0"]
         lines += [f"tunable {name} {value}" for name, value in zip(TUNABLES, self.tunables)]
-        lines += ["", "# devices"] + [f"device {d} osd.{d}" for d in range(self.devices)]
+        lines += ["", "# devices"] + [f"device {d} osd.{d}" for d in self.ids or range(self.devices)]
         lines += ["", "# types"] + [f"type {number} {name}" for number, name in TYPES.items()] + ["", "# buckets"]
         for id_, type_, kind, entries in self.buckets:
             items = [f"\titem {self.item_name(it)} weight {weight_text(weight)}" for it, weight in entries]
@@ -138,7 +148,7 @@ ALL = tuple(range(1, 11))
 
 
 def by_kind():
-    for kind in ("uniform", "list", "tree"):
+    for kind in (*KINDS, "straw2"):
         yield tree_of(Map(f"{kind}_firstn"), [kind] * 3, weight=uneven).rule("take -1", leaves("firstn"), "emit", sizes=ALL)
         yield some_out(tree_of(Map(f"{kind}_indep"), [kind] * 3, weight=uneven)).rule("take -1", leaves("indep"), "emit", sizes=ALL)
         yield some_out(hosts_of(Map(f"{kind}_two_levels_legacy", LEGACY), [kind] * 2, weight=uneven)).rule(
@@ -162,7 +172,7 @@ def weights():
     def sparse(d):
         return 0 if d % 3 == 0 else ONE * (d % 4)
 
-    for kind in ("list", "tree"):
+    for kind in ("list", "tree", "straw2"):
         for mode in ("firstn", "indep"):
             map_ = tree_of(Map(f"zero_weights_{kind}_{mode}"), [kind] * 3, devices=4, weight=sparse,
                            host_weight=lambda r, h: 0 if h == r else ONE)
@@ -242,12 +252,51 @@ def odd():
     yield map_.rule("take -1", leaves("firstn", 3), "emit", "take -1", chosen("indep", 3, "osd"), "emit", sizes=(6,))
 
 
-def random_map(seed):
+def straw2():
+    kinds = ("straw2", "straw2", "straw2")
+    yield some_out(tree_of(Map("straw2_lists_uniforms"), ("straw2", "list", "uniform"), racks=5, weight=uneven)).rule(
+        "take -1", leaves("firstn"), "emit", sizes=(2, 3, 6, 10))
+    yield some_out(tree_of(Map("straw2_below_uniform_legacy", LEGACY), ("uniform", "tree", "straw2"), racks=3, weight=uneven)).rule(
+        "take -1", leaves("indep"), "emit", sizes=(2, 3, 6, 10))
+    yield tree_of(Map("straw2_even"), kinds, racks=8, hosts=4, devices=4).rule("take -1", leaves("firstn"), "emit", "take -1", leaves("indep"), "emit", sizes=(3, 6))
+    choice = random.Random("straw2")
+    yield some_out(tree_of(Map("straw2_of_any_weights"), kinds, racks=6, devices=9, weight=lambda d: choice.randrange(16 * ONE))).rule(
+        "take -1", leaves("firstn"), "emit", "take -1", leaves("indep", 3), "emit", sizes=(4, 7))
+    yield some_out(tree_of(Map("straw2_racks_then_hosts_then_devices"), kinds, weight=uneven)).rule(
+        "take -1", chosen("firstn", 2, "rack"), chosen("firstn", 2, "host"), chosen("firstn", 1, "osd"), "emit", sizes=(3, 4, 6))
+    yield some_out(tree_of(Map("straw2_racks_then_leaves_indep"), kinds, weight=uneven)).rule(
+        "set_chooseleaf_tries 5", "take -1", chosen("indep", 5, "rack"), leaves("indep", 2), "emit", sizes=(4, 8, 10))
+    map_ = tree_of(Map("straw2_nothing_weighs"), kinds, weight=lambda d: 0)
+    yield map_.rule("take -1", leaves("firstn"), "emit", "take -5", chosen("indep", 2, "osd"), "emit", sizes=(1, 3))
+    map_ = tree_of(Map("straw2_little_weighs"), kinds, weight=lambda d: int(d % 3 == 2), host_weight=lambda r, h: int(h != r))
+    yield map_.rule("take -1", leaves("firstn"), "emit", "take -1", leaves("indep"), "emit", sizes=(1, 3, 5))
+    # weights above 856.4, by which different logarithms may give the same quotient; crushtool takes
+    # none above 100.0 of a device
+    map_ = tree_of(Map("straw2_of_great_weights"), kinds, racks=3, hosts=3, host_weight=lambda r, h: (900 * ONE, 5_000 * ONE, 1_000 * ONE)[h])
+    yield map_.rule("take -1", leaves("firstn"), "emit", "take -1", chosen("firstn", 0, "rack"), "emit", sizes=(1, 3, 6))
+    map_ = hosts_of(Map("straw2_of_equal_great_weights"), ("list", "straw2"), hosts=12, devices=2)
+    hosts = [(id_, 5_000 * ONE) for id_ in range(-13, -1)]
+    map_.bucket("straw2", RACK, hosts, -20)
+    yield map_.rule("take -20", leaves("firstn"), "emit", "take -20", chosen("indep", 0, "host"), "emit", sizes=(1, 2, 8))
+    map_ = Map("straw2_of_a_thousand")
+    map_.bucket("straw2", ROOT, map_.take_devices(1000, lambda d: 0 if d % 50 == 7 else ONE * (1 + d % 4)), -1)
+    yield some_out(map_).rule("take -1", chosen("firstn", 3, "osd"), "emit", "take -1", chosen("indep", 3, "osd"), "emit", sizes=(1, 6))
+    for size in range(1, 18):
+        map_ = Map(f"straw2_of_{size}")
+        map_.bucket("straw2", ROOT, map_.take_devices(size, lambda d: ONE * (1 + d % 2)), -77)
+        yield map_.rule("take -77", chosen("firstn", 1, "osd"), "emit", sizes=(1,))
+    map_ = Map("straw2_of_great_ids")
+    entries = map_.name_devices([(d, ONE * (1 + d % 3)) for d in (65535, 0, 65534, 32768, 9, 32767, 60000, 4096, 55160, 64590)])
+    map_.bucket("straw2", ROOT, entries, -65536)
+    yield map_.rule("take -65536", chosen("firstn", 0, "osd"), "emit", sizes=(1, 3, 10))
+
+
+def random_map(seed, kinds=KINDS, name="random"):
     choice = random.Random(seed)
-    map_ = Map(f"random_{seed}", choice.choice([JEWEL, LEGACY, (10, 1, 2, 0), (7, 0, 3, 1), (50, 1, 4, 0)]))
+    map_ = Map(f"{name}_{seed}", choice.choice([JEWEL, LEGACY, (10, 1, 2, 0), (7, 0, 3, 1), (50, 1, 4, 0)]))
 
     def bucket(type_, entries, id_=None):
-        kind = choice.choice(("uniform", "list", "tree"))
+        kind = choice.choice(kinds)
         if kind == "uniform":
             entries = [(i, ONE) for i, _ in entries]
         elif kind == "tree" and not any(w for _, w in entries):
@@ -281,15 +330,15 @@ def random_map(seed):
     return map_.rule(*steps, sizes=tuple(sorted(choice.sample(ALL, 4))))
 
 
-def shared_map(seed):
+def shared_map(seed, kinds=KINDS, name="shared"):
     """Devices that are in several hosts, and hosts in several racks: an item chosen may have been
     chosen elsewhere before."""
     choice = random.Random(seed)
-    map_ = Map(f"shared_{seed}", (choice.randint(0, 19), choice.randint(0, 1), choice.randint(0, 3), choice.randint(0, 1)))
+    map_ = Map(f"{name}_{seed}", (choice.randint(0, 19), choice.randint(0, 1), choice.randint(0, 3), choice.randint(0, 1)))
     devices = [device for device, _ in map_.take_devices(12)]
 
     def bucket(type_, items, id_=None):
-        kind = choice.choice(("uniform", "list", "tree"))
+        kind = choice.choice(kinds)
         of_all = choice.choice((ONE // 2, ONE, 3 * ONE))
         entries = [(it, of_all if kind == "uniform" else choice.choice((0, ONE // 2, ONE, ONE, 3 * ONE))) for it in items if choice.random() < 0.6]
         if kind == "tree" and not any(w for _, w in entries):
@@ -316,6 +365,11 @@ def all_maps():
         yield random_map(seed)
     for seed in range(1, 13):
         yield shared_map(seed)
+    yield from straw2()
+    for seed in range(101, 116):
+        yield random_map(seed, WITH_STRAW2, "straw2_random")
+    for seed in range(101, 106):
+        yield shared_map(seed, WITH_STRAW2, "straw2_shared")
 
 
 def main():

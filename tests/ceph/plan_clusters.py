@@ -9,7 +9,7 @@ import random
 import library
 from make_maps import HOST, LEGACY, ONE, OSD, RACK, Map, chosen, hosts_of, leaves, tree_of
 
-KINDS = ("list", "tree", "uniform")
+KINDS = ("list", "tree", "uniform", "straw2", "straw2")
 REPLICATED, ERASURE = "replicated", "erasure"
 
 
@@ -99,6 +99,9 @@ def named_clusters():
     yield Cluster("many-pools", map_, [pool(id_, rule, size, pg_num) for id_, (rule, size, pg_num) in enumerate([(0, 3, 64), (1, 6, 32), (2, 3, 17), (3, 5, 48), (4, 4, 64), (5, 3, 31), (6, 3, 64), (0, 2, 128), (1, 3, 8), (0, 5, 16)], 1)], states=mixed_states(drawn, map_.devices, 0.1), upmaps=30)
     map_ = hosts_of(PlanMap("thousand"), ("tree", "tree"), hosts=60, devices=17, weight=uneven(drawn))
     yield Cluster("thousand", map_, [pool(1, 0, 3, 2048), pool(2, 1, 6, 512)], states=mixed_states(drawn, map_.devices, 0.02), removed=(40, 41, 500), upmaps=400)
+    map_ = tree_of(PlanMap("straw2"), ["straw2"] * 3, racks=4, hosts=4, devices=4, weight=uneven(drawn))
+    yield Cluster("straw2", map_, [*basic(), pool(9, 6, 3, 64)], states=mixed_states(drawn, map_.devices), removed=(5, 17), upmaps=30)
+    yield Cluster("straw2-and-others", tree_of(PlanMap("straw2-and-others"), ("straw2", "list", "straw2"), racks=5, hosts=3, devices=5), basic(), upmaps=10)
 
 
 def random_cluster(seed, number):

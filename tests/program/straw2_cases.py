@@ -1,5 +1,5 @@
-"""Requests on maps of straw2 buckets, and texts that ask for them or don't, each with the reply that the
-format's rules give it. Answers stand here as they were worked out, or come from model/."""
+"""Requests on maps of straw2 buckets, and texts that ask for them or don't, each with the reply
+that the format's rules give it. Answers stand here as crushtool has them, or come from model/."""
 import random
 
 from model import choosing, crush, map_text
@@ -76,7 +76,8 @@ def short_texts():
 
 
 def of_tests(texts, asked, start=START):
-    """Each text is imported, with tests of the size and input (and the first item that is known)."""
+    """Imports of texts, each with tests of its rule: pairs of size and input, and of the items and
+    trace."""
     rows = list(start)
     for number, (text, pairs) in enumerate(zip(texts, asked), 1):
         rows.append((import_of(text, f"m{number}"), imported(number, number)))
@@ -161,9 +162,9 @@ def picks_by_request():
 
 
 def worked_rows():
-    """What crushtool answers too: three devices of 1.0, and with 2.0 for the second, by several ids of
-    the bucket; none that weighs, and one that does; the two greatest draws; two lacks that are equal;
-    the greatest weights."""
+    """What crushtool answers too: three devices of 1.0, by two ids of the bucket, and with 2.0 for
+    the second; none that weighs something, and one that does; the two greatest draws; two lacks
+    that are equal; the greatest weights."""
     even, raised = straw2_of([(it, "1.0") for it in range(3)]), straw2_of([(0, "1.0"), (1, "2.0"), (2, "1.0")])
     first = firsts((0, 0, 1, 0, 1, 0, 2, 1, 2, 2, 0, 0, 0, 0, 1, 1))
     second = firsts((0, 0, 1, 0, 1, 1, 2, 1, 2, 2, 0, 1, 1, 0, 1, 1))
@@ -192,7 +193,8 @@ def of_weights(maps):
 
 
 def sizes():
-    """Buckets of 1 to 40 items: of one weight, and with a last item that is nearly always picked."""
+    """Buckets of 1 to 40 items: of one weight, and with a last item that is nearly always
+    picked."""
     asked = [(1, x) for x in range(12)]
     even = [([(it, ONE) for it in range(size)], [*asked, (min(size, 5), 5)]) for size in range(1, 41)]
     last = [([*((it, ONE) for it in range(size)), (size, 64 * size * ONE)], asked) for size in range(40)]
@@ -213,14 +215,29 @@ TWELVE = [(it, ONE * (1 + it % 4)) for it in range(12)]
 
 
 def equal_lacks():
-    """Inputs at which the least lack is that of two items: the first of them is picked. The items weigh
-    little, so that their draws give equal logarithms, or much, so that quotients are equal too."""
+    """Inputs at which the least lack is that of two items: the first of them is picked. The items
+    weigh little, so that their draws give equal logarithms, or much, so that quotients are equal
+    too."""
     return of_weights([
         ([(it, ONE) for it in range(12)], [(1, x) for x in (6816, 9502, 11272, 11311, 11504)]),
         (TWELVE, [(1, x) for x in (9502, 11272, 11504)]),
         ([(0, ONE), (1, ONE)], [(1, 10841)]),
         ([(it, 900 * ONE) for it in range(4)], [(1, x) for x in (6816, 28544, 28583, 29075)]),
         ([(7, GREATEST), (3, GREATEST)], [(1, x) for x in (1274, 25461)]),
+    ])
+
+
+def great_weights():
+    """Weights by which different logarithms give equal lacks: the first is picked at each input
+    that isn't small, though another's logarithm is greater. And weights at both sides of 2^30."""
+    few = [(1, x) for x in range(20)]
+    return of_weights([
+        ([(0, 20_000 * ONE), (1, 20_000 * ONE)], [(1, x) for x in (112120, 194861, 245824, 249100, 255026)]),
+        ([(0, GREATEST), (1, 20_000 * ONE)], few + [(1, x) for x in (24050, 65095, 71452, 100710, 186536)]),
+        ([(5, 30_000 * ONE), (4, 10_000 * ONE)], few + [(1, x) for x in (217198, 243222, 380301, 526588, 618108)]),
+        ([(0, 2**30), (1, 2**30 - 1), (2, 2**30 + 1)], few),
+        ([(0, 2**30 + 1), (1, ONE)], few),
+        ([(0, GREATEST), (1, GREATEST), (2, 1)], few),
     ])
 
 
@@ -242,5 +259,5 @@ def placements():
 
 
 def cases():
-    for make in (texts_that_ask, canonical_texts, texts_apart, picks_by_request, worked_rows, sizes, mixed_weights, equal_lacks, tables_as_they_are, placements):
+    for make in (texts_that_ask, canonical_texts, texts_apart, picks_by_request, worked_rows, sizes, mixed_weights, equal_lacks, great_weights, tables_as_they_are, placements):
         yield make.__name__, make()

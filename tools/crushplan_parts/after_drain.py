@@ -1,7 +1,6 @@
 """What removing the drained devices from the map would move again, and what it moves where their
 CRUSH weight becomes 0 first, in the place of the drain."""
 from .edits import purged, weighed
-from .placing import Note
 from .stages import Stages
 from .summary import bytes_anew, gains, total, whole, written_anew
 
@@ -30,30 +29,26 @@ class AfterDrain:
     """`purge` is what removing the devices moves once they are drained; `weight_first` what their
     CRUSH weight of 0 moves in the place of the drain, and `then_purge` what removing them moves
     then. `left` are the copies that stay on the devices by the weight of 0, and `too_full` the
-    devices that it fills past the backfill-full ratio, with the used part of their room. `without`
-    are the pools that aren't computed in it."""
+    devices that it fills past the backfill-full ratio, with the used part of their room."""
 
     def __init__(self, plan, devices):
         self.plan, self.devices = plan, devices
-        by_class = {it.id for it in plan.pools.values() if any(plan.map.buckets[item].shadow for item in plan.map.rules[it.rule].takes() if item < 0)}
-        # Ceph makes the trees of classes anew, which isn't computed here
-        self.without = [it for it in plan.pools.values() if it.id in by_class and set(devices) & plan.reach(it)]
-        above = {it for device in devices for it in [device, *plan.tree.ancestors(device)]}
-        self.pools = [it.id for it in plan.pools.values() if it.id not in by_class and above & self.below(it)]
+        has = {it.id for it in plan.map.buckets.values() if set(devices) & {item for item, _ in it.items}} | set(devices)
+        self.pools = [it.id for it in plan.pools.values() if has & self.below(it)]
+        own = {it: plan.pools[it] for it in self.pools}
         self.gone, self.weightless = purged(plan.map, devices), weighed(plan.map, devices)
-        self.texts = [plan.written(it).text() for it in (self.gone, self.weightless)]
+        self.texts = [plan.written(it, own) for it in (self.gone, self.weightless)]
 
     def below(self, pool):
         """Returns the items that a pool's rule takes, and all buckets below them."""
         takes = self.plan.map.rules[pool.rule].takes()
         return {*takes, *(it for item in takes for it in self.plan.map.buckets_below(item))}
 
-    def ask_purge(self, drained, pairs):
-        """Asks what removing the devices moves once they are drained, with the upmap items that
-        are left by then."""
+    def ask_purge(self, drained):
+        """Asks what removing the devices moves once they are drained, after the stages that drained them."""
         if not self.pools:
             return {}
-        return Stages(self.plan, self.pools, {**self.plan.pairs, **pairs}, drained).set_map(self.gone, self.texts[0])
+        return Stages(self.plan, self.pools, drained).set_map(self.gone, self.texts[0])
 
     def ask_weight_first(self):
         """Asks what the CRUSH weight of 0 moves, and then the removal: side by side where no upmap
@@ -61,14 +56,14 @@ class AfterDrain:
         if not self.pools:
             return {}, {}
         stages = Stages(self.plan, self.pools)
-        if any(stages.pairs.values()):
+        if any(stages.pairs.values()) or any(stages.lists.values()):
             return stages.set_map(self.weightless, self.texts[1]), stages.set_map(self.gone, self.texts[0])
         later = Stages(self.plan, self.pools, texts=[self.texts[1]])
         return self.plan.side_by_side(lambda: stages.set_map(self.weightless, self.texts[1]), lambda: later.set_map(self.gone, self.texts[0]))
 
     def take(self, changes, purge, first, second):
         """Takes what was answered. `changes` are those of the drain."""
-        self.drained = sum(it.copies for it in changes if it.pool not in self.without)
+        self.drained = sum(it.copies for it in changes)
         changes = [it for it in changes if it.pool.id in self.pools]
         self.purge, self.weight_first, self.then_purge = (self.steps(changes, it) for it in (purge, first, second))
         # a uniform bucket picks a device of the weight 0 as any other
@@ -85,14 +80,7 @@ class AfterDrain:
         return found
 
     def steps(self, changes, moves):
-        skipped = self.plan.whole_lists
-        return Steps([(it, {group: both for group, both in moves[it.pool.id].items() if group not in skipped.get(it.pool.id, ())}) for it in changes])
-
-    def note(self):
-        """Returns what is said of the pools that are left out, or None."""
-        if not self.without:
-            return None
-        return Note("class", f"what a purge moves isn't computed in pools whose rules take a class: {', '.join(it.name for it in self.without)}", pools=[it.id for it in self.without], open_=False)
+        return Steps([(it, moves[it.pool.id]) for it in changes])
 
     def compared(self):
         """Returns the copies in all, of the pools of which both are known: drained and then

@@ -17,6 +17,7 @@ class Start:
         lists = {(pool, device): impacts.impact(pool, [device]) for pool in sorted(self.touched) for device in devices}
         plan.answer(*([usages, impacts] if lists else [usages]))
         self.usage = {pool: usages.counted(it) for pool, it in asked.items()}
+        plan.doubt_usage(self.usage)
         self.impact = {key: impacts.can_move(it) for key, it in lists.items()} if lists else {}
         self.all_lists, self.before = {}, None
         self.ask_short_pools()
@@ -35,13 +36,13 @@ class Start:
     def groups(self, pool, devices):
         """Returns the groups that can move where reweights of these devices are lowered."""
         found = set().union(*(self.impact.get((pool, it), set()) for it in devices)) if devices else set()
-        return found - self.plan.whole_lists.get(pool, set())
+        return found
 
     def groups_with(self, pool, devices):
         """Returns the groups whose up list may have one of the devices: those of the impact lists,
         and all of a pool whose rule takes one by name, which no impact list has."""
         if self.plan.taken(self.plan.pools[pool]) & set(devices):
-            return set(range(self.plan.pools[pool].pg_num)) - self.plan.whole_lists.get(pool, set())
+            return set(range(self.plan.pools[pool].pg_num))
         return self.groups(pool, devices)
 
     def wanted(self, devices):
@@ -54,17 +55,6 @@ class Start:
         asked = {pool: run.lists(pool, groups) for pool, groups in self.wanted(self.devices).items() if groups}
         self.plan.answer(run)
         self.before = {pool: run.placements(it) for pool, it in asked.items()}
-
-    def unknown_groups(self, devices):
-        """Returns the groups with whole upmap lists that may have to do with the devices."""
-        found = []
-        for pool, groups in self.plan.whole_lists.items():
-            touched = set().union(*(self.impact.get((pool, it), set()) for it in devices))
-            found += [(pool, it) for it in sorted(groups) if it in touched or self.has_listed(pool, it, devices)]
-        return found
-
-    def has_listed(self, pool, group, devices):
-        return bool(self.plan.cluster.lists.get(pool, {}).get(group, set()) & set(devices))
 
 
 def pool_changes(plan, start, devices, before, after):

@@ -10,13 +10,12 @@ from .crush_map import KINDS, MOST_DEVICES, ONE, mark_holes
 from .faults import Fault, some
 from .fields import opened
 from .read_dump import read_dump
+from .read_pgs import NONE, read_pgs
 from .read_text import read_text
 
-MAP_DUMP, MAP_TEXT, OSD_DUMP, DF, OSD_DF = "crush.json", "map.txt", "osd.json", "df.json", "osd-df.json"
+MAP_DUMP, MAP_TEXT, OSD_DUMP, DF, OSD_DF, PGS = "crush.json", "map.txt", "osd.json", "df.json", "osd-df.json", "pgs.json"
 HASHPSPOOL, RJENKINS = 1, 2
-PRIMARIES = ("primary_temp", "pg_upmap_primaries")
 GROUP = re.compile(r"(\d{1,10})\.([0-9a-f]{1,8})")
-NONE = 2_147_483_647  # an item that is none, in Ceph's lists
 
 
 @dataclasses.dataclass
@@ -35,6 +34,8 @@ class Pool:
     object_hash: int = RJENKINS
     split_to: typing.Optional[tuple] = None  # the pg_num and pgp_num that it is on its way to
     bytes: typing.Optional[int] = None
+    stretched: bool = False  # whether its I/O also stops where a site has no copy (stretch mode)
+    tiers: tuple = ()  # the pools that objects of it may lie in instead, or that it is the cache of
 
     def group_name(self, group):
         """Returns a group's id as Ceph writes it."""
@@ -64,10 +65,11 @@ class State:
 
 @dataclasses.dataclass
 class Room:
-    """What a device holds and can hold, in bytes."""
+    """What a device holds and can hold, in bytes, and how many groups it has, or None."""
 
     used: int
     size: int
+    groups: typing.Optional[int] = None
 
     def used_after(self, gained=0):
         """Returns which part of it is used once so many bytes are added, or None where its size
@@ -84,14 +86,17 @@ class Cluster:
     pools: dict
     states: dict
     pairs: dict  # upmap items: of each pool, of each group, its pairs of devices
-    lists: dict  # whole upmap lists: of each pool, of each group, its devices
-    temporary: dict  # PRIMARIES and pg_temp: of each, of each pool, of each group, its devices
-    affine: list  # devices of a primary affinity other than 1
+    lists: dict  # whole upmap lists: of each pool, of each group, its devices, None for a place without one
+    temporary: dict  # pg_temp and primary_temp: of each, of each pool, of each group, its devices
+    primaries: dict  # primaries that were set (pg_upmap_primaries): of each pool, of each group
+    affinity: dict  # primary affinities in 65536ths, by device, where they aren't 1
     ratios: dict
     rooms: dict
     warnings: list
     described: bool = False  # whether the pools come from the command line
     flags: tuple = ()  # of the whole cluster, as noout
+    own_flags: dict = dataclasses.field(default_factory=dict)  # of single devices, buckets and classes, by name
+    groups: typing.Optional[object] = None  # where the cluster itself says that groups lie
 
     def is_past(self, name, used):
         """Returns whether such a part of a device's room is more than a ratio of the cluster."""
@@ -139,7 +144,7 @@ def read_cluster(folder, asked):
     dump = opened(path, OSD_DUMP) if path.exists() else None
     states = {} if dump is None else states_of(dump)
     map_ = read_map(folder, None if dump is None else 0 in states)
-    cluster = Cluster(folder, map_, {}, states, {}, {}, {}, [], {}, {}, [])
+    cluster = Cluster(folder, map_, {}, states, {}, {}, {}, {}, {}, {}, {}, [])
     if map_.rounded:
         cluster.warnings.append(f"{map_.file} has weights that 'crushtool -d' rounded to three decimals; {MAP_DUMP} ('ceph osd crush dump -f json') has exact ones")
     if dump is None:
@@ -147,6 +152,7 @@ def read_cluster(folder, asked):
     else:
         read_osd_dump(cluster, dump, asked)
     read_bytes(cluster)
+    cluster.groups = read_pgs(folder / PGS)
     return cluster
 
 
@@ -181,13 +187,33 @@ def read_osd_dump(cluster, dump, asked):
     for id_ in missing:
         cluster.states[id_] = State(0, False)
     read_upmaps(cluster, dump)
-    cluster.flags = tuple(dump.get("flags", str, "").split(","))
-    for name in ("pg_temp", *PRIMARIES):
+    read_flags(cluster, dump)
+    for name in ("pg_temp", "primary_temp"):
         cluster.temporary[name] = groups_named(dump, name)
-    cluster.affine = sorted(it.get("osd", int) for it in dump.each("osds") if it.has("primary_affinity") and fixed(it.at("primary_affinity").of_kind(Decimal)) != ONE)
+    for it in dump.each("osds"):
+        affinity = fixed(it.at("primary_affinity").of_kind(Decimal)) if it.has("primary_affinity") else ONE
+        if affinity != ONE:
+            cluster.affinity[it.get("osd", int)] = affinity
     for name in ("full_ratio", "backfillfull_ratio", "nearfull_ratio"):
         if dump.has(name):
             cluster.ratios[name] = dump.size(name, Decimal)
+
+
+def read_flags(cluster, dump):
+    """Reads the flags of the cluster, and those of single devices, buckets and classes."""
+    cluster.flags = tuple(dump.get("flags", str, "").split(","))
+    for it in dump.each("osds"):
+        own = [of.of_kind(str) for of in it.each("state", ())]
+        if "noout" in own:
+            cluster.own_flags[f"osd.{it.get('osd', int)}"] = own
+    for name, what in (("crush_node_flags", ""), ("device_class_flags", "the class ")):
+        inner = dump.at(name) if dump.has(name) else None
+        for key in inner.of_kind(dict) if inner else ():
+            cluster.own_flags[what + key] = [it.of_kind(str) for it in inner.each(key)]
+    own = dump.at("stretch_mode") if dump.has("stretch_mode") else None
+    if own and own.flag("stretch_mode_enabled", False):
+        for it in cluster.pools.values():
+            it.stretched = it.kind == "replicated"
 
 
 def pool_of(node):
@@ -199,7 +225,14 @@ def pool_of(node):
     return Pool(
         node.get("pool", int), name, KINDS.get(kind, f"of type {kind}"), size, node.size("min_size", int, 1), node.get("crush_rule", int), pg_num, pgp_num,
         "hashpspool" in flags, node.get("object_hash", int, RJENKINS), target if target != (pg_num, pgp_num) else None,
+        stretched=node.get("peering_crush_bucket_count", int, 0) > 0, tiers=tiers_of(node),
     )  # fmt: skip
+
+
+def tiers_of(node):
+    """Returns the pools that a pool is a tier of, or that are its tiers."""
+    found = [node.get(name, int, -1) for name in ("tier_of", "read_tier", "write_tier")]
+    return tuple(sorted({it for it in found if it >= 0} | {it.of_kind(int) for it in node.each("tiers", ())}))
 
 
 def group_of(text, where):
@@ -216,7 +249,10 @@ def read_upmaps(cluster, dump):
         cluster.pairs.setdefault(pool, {})[group] = pairs
     for it in dump.each("pg_upmap", ()):
         pool, group = group_of(it.get("pgid", str), f"{it.where}: pgid")
-        cluster.lists.setdefault(pool, {})[group] = devices_in(it)
+        cluster.lists.setdefault(pool, {})[group] = [None if of.of_kind(int) == NONE else of.value for of in it.each("osds")]
+    for it in dump.each("pg_upmap_primaries", ()):
+        pool, group = group_of(it.get("pgid", str), f"{it.where}: pgid")
+        cluster.primaries.setdefault(pool, {})[group] = it.get("primary_osd", int)
 
 
 def groups_named(dump, name):
@@ -224,7 +260,7 @@ def groups_named(dump, name):
     found = {}
     for it in dump.each(name, ()):
         pool, group = group_of(it.get("pgid", str), f"{it.where}: pgid")
-        found.setdefault(pool, {})[group] = devices_in(it) if it.has("osds") else {it.get("primary_osd" if it.has("primary_osd") else "osd", int)}
+        found.setdefault(pool, {})[group] = devices_in(it) if it.has("osds") else {it.get("osd", int)}
     return found
 
 
@@ -271,7 +307,23 @@ def read_bytes(cluster):
                     raise Fault(f"{DF} has pool {pool.id} as {name!r}, and {OSD_DUMP} as {pool.name!r}: are they of one cluster, and of the same time?")
                 pool.bytes = bytes_of(pool, it.at("stats"), counts_by_pool(dump))
     if (cluster.folder / OSD_DF).exists():
-        for it in opened(cluster.folder / OSD_DF, OSD_DF).each("nodes"):
-            id_ = it.get("id", int)
-            if id_ >= 0:
-                cluster.rooms[id_] = Room(it.size("kb_used") * 1024, it.size("kb") * 1024)
+        read_rooms(cluster, opened(cluster.folder / OSD_DF, OSD_DF))
+
+
+def read_rooms(cluster, dump):
+    """Reads what devices hold and can hold; a number that is none (nan) is left out with a note."""
+    odd = []
+    for it in dump.each("nodes"):
+        id_ = it.get("id", int)
+        if id_ < 0:
+            continue
+        if any(map(is_nan, it.value.values())):
+            odd.append(f"osd.{id_}")
+            continue
+        cluster.rooms[id_] = Room(it.size("kb_used") * 1024, it.size("kb") * 1024, it.get("pgs", int) if isinstance(it.value.get("pgs"), int) else None)
+    if odd:
+        cluster.warnings.append(f"{OSD_DF} has no number of how full {some(odd)} {'is' if len(odd) == 1 else 'are'} (nan)")
+
+
+def is_nan(value):
+    return isinstance(value, (float, Decimal)) and value != value

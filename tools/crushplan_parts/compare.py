@@ -3,19 +3,18 @@ import fractions
 import pathlib
 
 from .cluster import State, text_of
+from .computable import pool_fault
 from .crush_map import mark_holes
-from .faults import Fault, counted, some
+from .faults import counted, some
 from .output import Answer, Table, devices_text, sized
 from .placing import Note
 from .read_dump import read_dump
 from .read_text import read_text
 from .reports import COPY, listed, used_said
-from .service import change
 from .shares import Shares, hundredths, rounded
 from .stages import Stages
 from .summary import PoolChange, bytes_anew, gains, ratio_said, total, whole, written_anew
 from .tree import Tree
-from .write_text import Text
 
 ROUNDED = 33  # 65536ths by which rounding to three decimals changes a weight
 
@@ -30,57 +29,35 @@ def read_new(plan, path):
 
 
 class NewMap:
-    """A changed map as crushcalc takes it, with the pools that it can compute."""
+    """A changed map as crushcalc takes it, with the pools that it can compute, by id, and those that it can't."""
 
     def __init__(self, plan, map_):
-        self.plan, self.map, self.left_out = plan, map_, []
-        self.pools = [it for it in plan.pools.values() if self.takes(it)]
-        self.text = self.accepted()
-
-    def takes(self, pool):
-        own = self.plan.map
-        try:
-            self.plan.map = self.map
-            why = self.plan.pool_fault(pool)
-        finally:
-            self.plan.map = own
-        if why:
-            self.leave_out(pool, why[0], why[1])
-        return why is None
+        self.plan, self.map, self.left_out, self.pools = plan, map_, [], {}
+        for pool in plan.pools.values():
+            why = pool_fault(map_, pool, plan.cluster.described)
+            if why:
+                self.leave_out(pool, *why)
+            else:
+                self.pools[pool.id] = pool
+        self.texts = plan.accepted(map_, self.pools, self.leave_out)
 
     def leave_out(self, pool, kind, why):
         self.left_out.append(pool)
         self.plan.notes.append(Note(kind, f"pool {pool.name} ({pool.id}) isn't computed on {self.map.file}: {why}", pools=[pool.id]))
 
-    def written(self):
-        rules = sorted({it.rule for it in self.pools})
-        buckets = {it: True for rule in rules for item in self.map.rules[rule].takes() for it in self.map.buckets_below(item)}
-        # devices of the present map stay declared: states and upmap items name them
-        more = {it for it in self.plan.text.items if it >= 0} | {item for it in buckets for item, _ in self.map.buckets[it].items if item is not None and item >= 0}
-        return Text(self.map, list(buckets), rules, more - set(self.map.devices))
-
-    def accepted(self):
-        text = self.written()
-        if not self.pools:
-            return text
-        status, said = self.plan.client.run([change("/maps", text=text.text())])[0]
-        if status != 201:
-            kind, key = text.at_line(said.get("line", 1))
-            name = self.map.rules[key].name if kind == "rule" else self.map.buckets[key].name if kind == "bucket" else key
-            raise Fault(f"{self.map.file}: crushcalc refuses its {kind} {name} by its code {said.get('fault', said)} ('crushcalc check --help' says what it means)")
-        return text
-
 
 def compare(plan, asked):
     """Answers what a changed map moves."""
     new = NewMap(plan, read_new(plan, asked.new))
-    pools = new.pools
+    pools = list(new.pools.values())
     run = plan.run([it.id for it in pools])
     usages = {it.id: run.usage(it.id) for it in pools}
     plan.answer(run)
+    before = {it.id: run.counted(usages[it.id]) for it in pools}
+    plan.doubt_usage(before)
     stages = Stages(plan, [it.id for it in pools])
-    moves = stages.set_map(new.map, new.text.text(), True) if pools else {}
-    changes = [Compared(plan, new.map, it, run.counted(usages[it.id]), stages.usages[it.id], moves[it.id]) for it in pools]
+    moves = stages.set_map(new.map, new.texts, True) if pools else {}
+    changes = [Compared(plan, new.map, it, before[it.id], stages.usages[it.id], moves[it.id]) for it in pools]
     moved, copies = sum(len(it.moves) for it in changes), sum(it.copies for it in changes)
     bytes_ = total(it.bytes for it in changes)
     missing, before = sum(it.missing for it in changes), sum(it.missing_before for it in changes)
@@ -125,15 +102,14 @@ class Compared:
     """What a changed map moves in one pool."""
 
     def __init__(self, plan, map_, pool, before, after, moves):
-        skipped = plan.whole_lists.get(pool.id, ())
-        self.pool, self.moves = pool, {group: it for group, it in moves.items() if group not in skipped}
+        self.pool, self.moves = pool, moves
         self.copies = sum(written_anew(pool, *it) for it in self.moves.values())
         self.change = PoolChange(pool, before, set(), [])
         lists = [(group, *both) for group, both in self.moves.items()]
         self.bytes, self.gains = bytes_anew(self.change, lists), gains(pool, lists)
         self.missing, self.missing_before = (pool.size * pool.pg_num - it.total() for it in (after, before))
         old = Shares(plan.map, plan.map.rules[pool.rule], pool.size, plan.state)
-        new = Shares(map_, map_.rules[pool.rule], pool.size, lambda it: plan.state(it) if it in plan.text.items else State())
+        new = Shares(map_, map_.rules[pool.rule], pool.size, lambda it: plan.state(it) if it in plan.known else State())
         # the parts that devices gain, each of the copies that there are
         grown = (fractions.Fraction(new.of(it), new.whole) - fractions.Fraction(old.of(it), old.whole) for it in {*old.parts, *new.parts})
         self.least = sum((it for it in grown if it > 0), fractions.Fraction(0)) * before.total()

@@ -2,9 +2,11 @@
 import dataclasses
 import typing
 
-COMPUTED = ("list", "tree", "uniform")
+COMPUTED = ("list", "straw2", "tree", "uniform")
 ONE = 65536
 KINDS = {1: "replicated", 3: "erasure"}
+MSR_KINDS = {4: "replicated", 5: "erasure"}  # of rules of release 19 that choose several levels at once
+MSR = "it is an MSR rule (choosemsr, of release 19), which isn't computed: a rule of chooseleaf steps is"
 TUNABLES = ("choose_local_tries", "choose_local_fallback_tries", "choose_total_tries", "chooseleaf_descend_once", "chooseleaf_vary_r", "chooseleaf_stable")
 MOST_DEVICES = 65536  # ids of devices are below it
 
@@ -47,9 +49,19 @@ class Rule:
 
 
 @dataclasses.dataclass
+class WeightSet:
+    """Weights by which pools are placed instead of those of the map (choose_args). `rows` are by bucket:
+    a list of weights for each position. `with_ids` are the buckets that also have other ids for their items."""
+
+    rows: dict
+    with_ids: list = dataclasses.field(default_factory=list)
+    rounded: bool = False  # whether weights of 256 and more may be a little others in the cluster
+
+
+@dataclasses.dataclass
 class CrushMap:
     """A whole map. `devices` are names by id, `classes` classes by id; `file` is where it was read,
-    `rounded` whether its weights have three decimals alone."""
+    `rounded` whether its weights have three decimals alone. `weight_sets` are by the id of a pool, or -1."""
 
     file: str
     rounded: bool
@@ -69,6 +81,12 @@ class CrushMap:
     def holes(self):
         """Returns the holes that removed items left: pairs of a bucket and a place."""
         return [(bucket, place) for bucket in self.buckets.values() for place in bucket.holes()]
+
+    def shadows(self):
+        """Returns the ids of the buckets that have one class alone, by the id of their bucket and the class."""
+        ids = {it.name: it.id for it in self.buckets.values() if not it.shadow}
+        found = {(ids.get(it.name.rsplit("~", 1)[0]), it.shadow): it.id for it in self.buckets.values() if it.shadow}
+        return {(bucket, class_): id_ for (bucket, class_), id_ in found.items() if bucket is not None}
 
     def below(self, item, seen=None):
         """Returns the devices below an item, each once, in order; a device is below itself."""

@@ -18,7 +18,7 @@ def drain(plan, asked):
         start = Start(plan, devices)
         stages = Stages(plan, start.touched)
         lists = stages.set_states([drained], start.wanted(devices))
-        return start, lists, later.ask_purge(drained, stages.pairs)
+        return start, lists, later.ask_purge(stages)
 
     (start, (before, after), purge), (first, second) = plan.side_by_side(drain_then_purge, later.ask_weight_first)
     changes = pool_changes(plan, start, devices, before, after)
@@ -26,8 +26,6 @@ def drain(plan, asked):
     summary, stay = Summary(plan, changes, states), Stay(plan, start, devices, changes)
     warn_of_room(plan, summary)
     warn_of_flags(plan)
-    if later.note():
-        plan.notes.append(later.note())
     status = status_of(plan, summary, stay)
     fields = {
         "devices": devices, **summary.said(asked.groups), "stay": stay.said(),
@@ -47,7 +45,7 @@ def in_bytes(value):
 def purge_text(later, devices):
     """Says what removing the devices moves afterwards, and whether it is less by their CRUSH weight
     first; nothing where neither is computed."""
-    if later.without and not later.pools:
+    if not later.pools:
         return ""
     ids = " ".join(map(str, devices[:3])) + (" .." if len(devices) > 3 else "")
     first, _ = later.compared()

@@ -16,10 +16,8 @@ class Down:
         self.rows = []
         for id_, pool in plan.pools.items():
             short = short_now(pool, lists.get(id_, {}), start.all_lists.get(id_))
-            skipped = plan.whole_lists.get(id_, ())
             for group, copies in sorted(short.items()):
-                if group not in skipped:
-                    self.rows.append((pool, group, lists.get(id_, {}).get(group) or start.all_lists[id_][group], copies))
+                self.rows.append((pool, group, lists.get(id_, {}).get(group) or start.all_lists[id_][group], copies))
         self.short = len(self.rows)
         self.stopped = sum(copies < pool.min_size for pool, _, _, copies in self.rows)
 
@@ -78,7 +76,7 @@ def fail(plan, asked):
     it = Failure(plan, start, devices)
     stay = Stay(plan, start, devices, it.summary.changes)
     warn_of_room(plan, it.summary)
-    warn_of_outs(plan, asked.names)
+    warn_of_outs(plan, asked.names, devices)
     status = status_of(plan, it.summary, stay, it.down.stopped)
     fields = {"devices": devices, "down": it.down.said(asked.groups), "out": it.summary.said(asked.groups), "stay": stay.said()}
     blocks = [it.down.table(it.summary.groups) if plan.pools else None, it.down.pools_table(), summary_table(plan, it.summary, stay, "Once they are out:", devices), pools_table(it.summary), usage_table(plan, it.summary, asked.by)]
@@ -99,9 +97,26 @@ def rows_of(plan, it):
         yield ["out", *row]
 
 
-def warn_of_outs(plan, names):
+def flagged(plan, devices):
+    """Returns the names of devices, buckets and classes with the flag noout that have some of these devices."""
+    found, own = [], set(devices)
+    for name, flags in plan.cluster.own_flags.items():
+        class_ = name.removeprefix("the class ")
+        if name != class_:
+            below = {it for it, of in plan.map.classes.items() if of == class_}
+        else:
+            below = set(plan.map.below(plan.tree.ids[name])) if name in plan.tree.ids else set()
+        if "noout" in flags and below & own:
+            found.append(name)
+    return found
+
+
+def warn_of_outs(plan, names, devices):
     """Warns where Ceph marks no device of these names out by itself."""
     warn_of_flags(plan, "noout")
+    own = flagged(plan, devices)
+    if own:
+        plan.cluster.warnings.append(f"osd.json has the flag noout of {some(own)}: Ceph marks out none of {'its' if len(own) == 1 else 'their'} devices by itself")
     rack = next((number for number, name in plan.map.types.items() if name == "rack"), None)
     wide = [it.name for it in plan.map.buckets.values() if rack is not None and it.type >= rack and it.name in names]
     if wide:
@@ -114,7 +129,7 @@ def fail_each(plan, asked):
     items = plan.tree.buckets_of_type(type_)
     if not items:
         raise Fault(f"no {asked.each} has devices")
-    units = [(it, [d for d in dict.fromkeys(plan.map.below(it)) if d in plan.text.items]) for it in items]
+    units = [(it, [d for d in dict.fromkeys(plan.map.below(it)) if d in plan.known]) for it in items]
     start = Start(plan, sorted({device for _, devices in units for device in devices}))
     start.lists_now()
     found, progress = [], Progress(len(units), asked.each + "s")
@@ -126,7 +141,7 @@ def fail_each(plan, asked):
     finally:
         progress.end()
     warn_of_room(plan, found[0][1].summary)
-    warn_of_outs(plan, [plan.map.name_of(it) for it in items])
+    warn_of_outs(plan, [plan.map.name_of(it) for it in items], [device for _, devices in units for device in devices])
     found.sort(key=lambda it: (-it[1].down.stopped, -it[1].summary.missing, -len(it[1].summary.past["backfillfull_ratio"]), -it[1].summary.copies, plan.map.name_of(it[0])))
     statuses = [status_of(plan, it.summary, stay, it.down.stopped) for _, it, stay in found]
     status = 1 if 1 in statuses else 2 if 2 in statuses else 0

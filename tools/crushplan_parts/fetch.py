@@ -13,8 +13,9 @@ from .output import Answer
 FILES = (
     ("osd.json", ("osd", "dump", "-f", "json")), ("crush.json", ("osd", "crush", "dump", "-f", "json")),
     ("df.json", ("df", "detail", "-f", "json")), ("osd-df.json", ("osd", "df", "-f", "json")),
+    ("pgs.json", ("pg", "dump", "pgs_brief", "-f", "json")),
 )  # fmt: skip
-OPTIONAL = ("df.json", "osd-df.json", "map.txt")
+OPTIONAL = ("df.json", "osd-df.json", "pgs.json", "map.txt")
 SECONDS = 120
 
 
@@ -60,21 +61,29 @@ def fetch(asked):
             if name not in OPTIONAL:
                 raise
             failed.append(f"{name} isn't written: {fault}")
+            (folder / name).unlink(missing_ok=True)  # one of another time would say what isn't so any more
     try:
         write(folder / "map.txt", map_text(ceph, asked.crushtool))
         lines.append(f"{folder / 'map.txt'}: {shlex.join([*ceph, 'osd', 'getcrushmap'])}, {asked.crushtool} -d")
     except Fault as fault:
         failed.append(f"map.txt isn't written (crush.json is enough): {fault}")
-    if epoch(ran([*ceph, "osd", "dump", "-f", "json"])) != load(folder / "osd.json").get("crush_version"):
+    before, now = load(folder / "osd.json"), dumped(ran([*ceph, "osd", "dump", "-f", "json"]))
+    if now.get("crush_version") != before.get("crush_version"):
         failed.append("the map changed while it was read: fetch again")
+    elif now.get("epoch") != before.get("epoch"):
+        failed.append("states or exceptions changed while they were read: where 'crushplan check' then finds groups that differ, fetch again")
     return Answer(0, f"{len(lines)} files are in {folder}.", {"files": lines, "failed": failed}, ["\n".join(lines), "\n".join(failed)], [["file"], *([it] for it in lines)])
 
 
-def epoch(data):
+def dumped(data):
+    """Returns the object of a dump."""
     try:
-        return json.loads(data).get("crush_version")
-    except (ValueError, AttributeError):
-        raise Fault("ceph osd dump -f json doesn't write JSON") from None
+        found = json.loads(data)
+    except ValueError:
+        found = None
+    if not isinstance(found, dict):
+        raise Fault("ceph osd dump -f json doesn't write JSON")
+    return found
 
 
 def map_text(ceph, crushtool):

@@ -3,12 +3,14 @@ its file and its path in it."""
 import decimal
 import json
 import pathlib
+import re
 
 from .faults import Fault
 
 KINDS = {int: "a whole number", str: "a text", list: "a list", dict: "an object", decimal.Decimal: "a number"}
 REQUIRED = object()
 MOST_DIGITS = 20
+NAN = re.compile(r"(?<=[:\[,\s])-?(?:nan|inf)(?=\s*[,}\]])")  # which Ceph writes, and JSON doesn't have
 
 
 def load(path):
@@ -24,11 +26,19 @@ def load(path):
     if not text.strip():
         raise Fault(f"{path}: it is empty")
     try:
-        return json.loads(text, parse_float=decimal.Decimal)
+        return parsed(text)
     except json.JSONDecodeError as error:
         raise Fault(f"{path}: line {error.lineno}: it isn't JSON ({error.msg})") from None
     except (RecursionError, ValueError) as error:
         raise Fault(f"{path}: it isn't JSON that can be read ({type(error).__name__})") from None
+
+
+def parsed(text):
+    """Returns what a text of JSON has; numbers that are none, as Ceph writes them, are NaN."""
+    try:
+        return json.loads(text, parse_float=decimal.Decimal)
+    except json.JSONDecodeError:
+        return json.loads(NAN.sub("NaN", text), parse_float=decimal.Decimal)
 
 
 class Node:

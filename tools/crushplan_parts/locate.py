@@ -1,7 +1,7 @@
 """`crushplan locate`: where objects lie, or groups."""
 import re
 
-from .faults import Fault, nearest
+from .faults import Fault, nearest, some
 from .output import Answer, Table, devices_text
 from .reports import listed
 from .service import Request
@@ -25,6 +25,7 @@ def locate_groups(plan, names):
     lists = {pool.id: run.lists(pool.id, sorted({it for other, it in groups if other is pool})) for pool, _ in groups}
     plan.answer(run)
     placements = {id_: run.placements(it) for id_, it in lists.items()}
+    plan.doubt_groups(placements)
     found = []
     for pool, group in groups:
         it = placements[pool.id][group]
@@ -32,8 +33,7 @@ def locate_groups(plan, names):
     rows = [row for it in found for row in rows_of(it, [])]
     heads = ["pool", "group", "id", "raw", "up", "primary"]
     own = [heads] + [[it["pool"], it["group"], it["id"], listed(it["raw"]), listed(it["up"]), it["primary"]] for it in found]
-    whole = unknown(plan, found)
-    return Answer(2 if whole else 0, whole, {"groups": found}, [Table(HEADS, rows)], own)
+    return Answer(0, "", {"groups": found}, [Table(HEADS, rows)], own)
 
 
 def group_named(plan, name):
@@ -51,26 +51,33 @@ def group_named(plan, name):
 def locate_objects(plan, asked):
     """Answers where objects of a pool lie."""
     pool = pools_named(plan, [asked.pool_name])[0]
+    if pool.tiers:
+        others = some([plan.cluster.pools[it].name if it in plan.cluster.pools else it for it in pool.tiers])
+        raise Fault(f"pool {pool.name} is a tier of others, or has tiers ({others}): in which of them an object lies isn't known here; --group says where groups lie")
     if pool.object_hash != 2:
         raise Fault(f"pool {pool.name} has another object hash than rjenkins: where its objects lie isn't computed")
     for name in asked.objects:
         if len(name.encode(errors="surrogateescape")) > MOST_NAME or not name.isprintable() and "\udc80" <= max(name) <= "\udcff":
             raise Fault(f"the object's name {name[:40]!r} is longer than {MOST_NAME} bytes, or is no UTF-8")
     run = plan.run([pool.id])
-    places = [run.add(Request("POST", f"/pools/{pool.id}/locate", {"name": it})) for it in asked.objects]
+    places = [run.add(pool.id, Request("POST", f"/pools/{pool.id}/locate", {"name": it})) for it in asked.objects]
     plan.answer(run)
-    found = [row_of(plan, pool, name, run.replies[place]) for name, place in zip(asked.objects, places)]
+    groups = [run.reply(pool.id, place)["group"] for place in places]
+    placements = placements_of(plan, pool, groups)
+    plan.doubt_groups({pool.id: placements})
+    found = [row_of(plan, pool, name, group, placements[group]) for name, group in zip(asked.objects, groups)]
     rows = [row for it in found for row in rows_of(it, [it["name"]])]
-    whole = unknown(plan, [{"pool": pool.id, **it} for it in found])
     heads = ["object", "pool", "group", "id", "raw", "up", "primary"]
     own = [heads] + [[it["name"], pool.id, it["group"], it["id"], listed(it["raw"]), listed(it["up"]), it["primary"]] for it in found]
-    return Answer(2 if whole else 0, whole, {"pool": pool.id, "objects": found}, [Table(("object", *HEADS), rows)], own)
+    return Answer(0, "", {"pool": pool.id, "objects": found}, [Table(("object", *HEADS), rows)], own)
 
 
-def unknown(plan, found):
-    """Returns the sentence of the groups that aren't computed, or nothing."""
-    whole = [it["id"] for it in found if it["group"] in plan.whole_lists.get(it["pool"], ())]
-    return f"unknown: {', '.join(whole)} has a whole upmap list, which isn't computed." if whole else ""
+def placements_of(plan, pool, groups):
+    """Asks where groups of a pool lie: with all upmap items, of which a request by a name may lack some."""
+    run = plan.run([pool.id])
+    asked = run.lists(pool.id, set(groups))
+    plan.answer(run)
+    return run.placements(asked)
 
 
 def rows_of(it, first):
@@ -83,8 +90,8 @@ def rows_of(it, first):
     return rows or [[*first, "no device", "", ""]]
 
 
-def row_of(plan, pool, name, said):
-    return {"name": name, "group": said["group"], "id": pool.group_name(said["group"]), "raw": said["raw"], "up": said["up"], "primary": said["primary"], "places": places_of(plan, said["raw"], said["up"])}
+def row_of(plan, pool, name, group, it):
+    return {"name": name, "group": group, "id": pool.group_name(group), "raw": it.raw, "up": it.up, "primary": it.primary, "places": places_of(plan, it.raw, it.up)}
 
 
 def places_of(plan, raw, up):

@@ -12,7 +12,8 @@ from .placing import Plan
 from .service import Script, Server, found_program
 
 COMMANDS = {"check": check.check, "usage": usage.usage, "compare": compare.compare, "drain": drain.drain, "fail": fail.fail, "upmap": upmap.upmap, "locate": locate.locate}
-FAILED, INTERRUPTED = 2, 130
+FAILED = UNKNOWN = 2
+INTERRUPTED = 130
 
 
 def client_of(asked, beside):
@@ -38,12 +39,20 @@ def answered(asked, beside):
         cluster, client = read_cluster(asked.folder, asked), client_of(asked, beside)
         try:
             plan = Plan(cluster, client)
-            answer = COMMANDS[asked.command](plan, asked)
+            answer = doubted(COMMANDS[asked.command](plan, asked), plan.doubt)
         finally:
             client.end()
     sys.stdout.write(written(answer, asked.command, asked.form, plan))
     sys.stdout.flush()
     return answer.status
+
+
+def doubted(answer, doubt):
+    """Returns an answer as one that isn't known, where the cluster itself says otherwise of its groups."""
+    if doubt:
+        answer.status = UNKNOWN
+        answer.sentence = f"unknown: {doubt}." + (f" As computed: {answer.sentence}" if answer.sentence else "")
+    return answer
 
 
 def failed(asked, why):

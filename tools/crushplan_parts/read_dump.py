@@ -1,8 +1,11 @@
 """crush.json: the map with exact weights, as `ceph osd crush dump -f json` or `crushtool --dump`
 writes it."""
-from .crush_map import KINDS, TUNABLES, Bucket, CrushMap, Rule
+from decimal import Decimal
+
+from .crush_map import KINDS, MSR, MSR_KINDS, ONE, TUNABLES, Bucket, CrushMap, Rule, WeightSet
 from .faults import Fault
-from .fields import opened
+from .fields import Node, opened
+from .sets import sharpen
 
 # steps that release 16 writes by their numbers
 OPCODES = {12: "set_chooseleaf_vary_r", 13: "set_chooseleaf_stable"}
@@ -26,7 +29,10 @@ def read_dump(path, name):
     buckets = {it.id: it for it in map(bucket_of, whole.each("buckets"))}
     rules = {it.id: it for it in (rule_of(node, buckets) for node in whole.each("rules"))}
     tunables = {it: whole.at("tunables").get(it, int) for it in TUNABLES if whole.at("tunables").has(it)}
-    return CrushMap(name, False, tunables, devices, classes, types, buckets, rules, weight_sets_of(whole))
+    map_ = CrushMap(name, False, tunables, devices, classes, types, buckets, rules, weight_sets_of(whole))
+    for it in map_.weight_sets.values():
+        sharpen(map_, it)
+    return map_
 
 
 def bucket_of(node):
@@ -35,13 +41,13 @@ def bucket_of(node):
         raise Fault(f"{node.where}: the id of a bucket is below 0")
     items = [(it.get("pos", int, place), it.get("id", int), it.size("weight")) for place, it in enumerate(node.each("items"))]
     items = [(item, weight) for _, item, weight in sorted(items, key=lambda it: it[0])]
-    shadow = name.split("~", 1)[1] if "~" in name else None
+    shadow = name.rsplit("~", 1)[1] if "~" in name else None
     return Bucket(id_, name, node.get("type_id", int), node.get("alg", str), node.get("hash", str, "rjenkins1"), items, shadow)
 
 
 def rule_of(node, buckets):
     id_, type_ = node.get("rule_id", int), node.get("type", int)
-    steps, odd = [], None if type_ in KINDS else f"its type is {type_}"
+    steps, odd = [], MSR if type_ in MSR_KINDS else None if type_ in KINDS else f"its type is {type_}"
     for it in node.each("steps"):
         step = step_of(it, buckets)
         if step is None:
@@ -51,7 +57,7 @@ def rule_of(node, buckets):
     if node.get("ruleset", int, id_) != id_:
         odd = odd or f"its ruleset is {node.get('ruleset', int)}"
     sizes = (node.get("min_size", int), node.get("max_size", int)) if node.has("min_size") and node.has("max_size") else None
-    return Rule(id_, node.get("rule_name", str, f"rule-{id_}"), KINDS.get(type_, "replicated"), steps, sizes, odd)
+    return Rule(id_, node.get("rule_name", str, f"rule-{id_}"), {**KINDS, **MSR_KINDS}.get(type_, "replicated"), steps, sizes, odd)
 
 
 def step_of(node, buckets):
@@ -76,14 +82,36 @@ def step_of(node, buckets):
 
 
 def weight_sets_of(whole):
-    """Returns the buckets of each weight set: by the id of its pool, or -1 for all pools."""
+    """Returns the weight sets: by the id of a pool, or -1 for all pools that have none of their own."""
     if not whole.has("choose_args"):
         return {}
-    sets = whole.at("choose_args")
-    found = {}
+    sets, found = whole.at("choose_args"), {}
     for key in sets.of_kind(dict):
         try:
-            found[int(key)] = [it.get("bucket_id", int) for it in sets.each(key)]
+            id_ = int(key)
         except ValueError:
             raise Fault(f"{sets.where}: {key!r} is no id of a pool") from None
+        rows, with_ids = {}, []
+        for it in sets.each(key):
+            bucket = it.get("bucket_id", int)
+            if it.has("weight_set"):
+                rows[bucket] = [[fixed_weight(of) for of in row_of(it, place)] for place in range(len(it.at("weight_set").of_kind(list)))]
+            if it.has("ids") and it.at("ids").of_kind(list):
+                with_ids.append(bucket)
+        found[id_] = WeightSet(rows, with_ids)
     return found
+
+
+def row_of(node, place):
+    """Yields the weights of a position."""
+    inner = Node(node.value["weight_set"][place], f"{node.where}: weight_set[{place}]")
+    for at, value in enumerate(inner.of_kind(list)):
+        yield Node(value, f"{inner.where}[{at}]")
+
+
+def fixed_weight(node):
+    """Returns the 65536ths of a weight, which the dump has as a number with a point."""
+    value = node.of_kind(Decimal)
+    if value < 0:
+        raise Fault(f"{node.where} is below 0")
+    return int((value * ONE).to_integral_value())

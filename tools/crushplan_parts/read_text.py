@@ -3,11 +3,14 @@ doesn't compute is read too, so that it can be named."""
 import decimal
 import re
 
-from .crush_map import ONE, TUNABLES, Bucket, CrushMap, Rule
+from .crush_map import MSR, ONE, TUNABLES, Bucket, CrushMap, Rule, WeightSet
 from .faults import Fault
+from .sets import ALL
+from .shadows import rebuilt
 
 WORD = re.compile(r"[{}\[\]]|[^\s{}\[\]]+")
 INTEGER = re.compile(r"-?\d{1,10}")
+UNSIGNED_ALL = str(2**64 - 1)  # the key of the weight set of all pools, as crushtool writes it
 WEIGHT = re.compile(r"\d{1,10}(\.\d{1,20})?")
 
 
@@ -49,20 +52,11 @@ class Words:
             raise self.fault(f"{self.peek()!r} isn't a weight")
         return int(decimal.Decimal(self.next()) * ONE)
 
-    def skip_block(self):
-        """Passes over a block in braces, and those inside."""
-        depth = 0
-        while True:
-            word = self.next()
-            depth += (word == "{") - (word == "}")
-            if depth == 0 and word == "}":
-                return
-
 
 def read_text(text, file):
     """Reads the map of a text; a Fault names the line where it can't be one."""
     words, map_ = Words(text, file), CrushMap(file, True, {}, {}, {}, {}, {}, {})
-    ids = {}
+    ids, shadows = {}, {}  # ids of buckets of single classes, by bucket and class
     while words.left():
         word = words.next()
         if word == "tunable":
@@ -85,26 +79,40 @@ def read_text(text, file):
         elif word == "choose_args":
             read_weight_set(words, map_)
         else:
-            bucket = read_bucket(words, word, map_, ids)
+            bucket, own = read_bucket(words, word, map_, ids)
             map_.buckets[bucket.id] = bucket
             ids[bucket.name] = bucket.id
+            shadows.update({(bucket.id, class_): id_ for class_, id_ in own.items()})
     if not map_.buckets and not map_.devices:
         raise Fault(f"{file}: it declares no device and no bucket: it isn't what 'crushtool -d' writes")
+    take_classes(map_, shadows)
     return map_
+
+
+def take_classes(map_, shadows):
+    """Makes the trees of single classes, which a text has by the ids of their buckets alone, and has rules take them."""
+    if not set(shadows.values()) & map_.buckets.keys():
+        rows = {key: dict(it.rows) for key, it in map_.weight_sets.items()}
+        rebuilt(map_, shadows)
+        for key, own in rows.items():  # the text has their rows too
+            map_.weight_sets[key].rows.update(own)
+    for rule in map_.rules.values():
+        rule.steps = [(it[0], shadows[it[1], it[2]], None) if it[0] == "take" and shadows.get((it[1], it[2])) in map_.buckets else it for it in rule.steps]
 
 
 def read_bucket(words, type_name, map_, ids):
     numbers = {name: number for number, name in map_.types.items()}
     if type_name not in numbers:
         raise words.fault(f"{type_name!r} is neither a type of buckets nor the beginning of a declaration")
-    name, id_, alg, hash_, items = words.next(), None, "", "rjenkins1", []
+    name, id_, alg, hash_, items, shadows = words.next(), None, "", "rjenkins1", [], {}
     words.next("{")
     while words.peek() != "}":
         word = words.next()
         if word == "id":
             number = words.number()
             if words.peek() == "class":
-                words.next(), words.next()
+                words.next()
+                shadows[words.next()] = number
             else:
                 id_ = number
         elif word == "alg":
@@ -119,7 +127,7 @@ def read_bucket(words, type_name, map_, ids):
     words.next("}")
     if id_ is None or id_ >= 0:
         raise words.fault(f"the bucket {name!r} has no id below 0")
-    return Bucket(id_, name, numbers[type_name], alg, hash_, placed(words, name, items))
+    return Bucket(id_, name, numbers[type_name], alg, hash_, placed(words, name, items)), shadows
 
 
 def read_item(words, map_, ids):
@@ -163,7 +171,7 @@ def read_rule(words, ids):
         elif word == "type":
             kind = words.next()
             if kind not in ("replicated", "erasure"):
-                odd = f"its type is {kind}"
+                odd = MSR if kind.startswith("msr_") else f"its type is {kind}"
         elif word in ("min_size", "max_size"):
             sizes[word] = words.number()
         elif word == "step":
@@ -203,8 +211,34 @@ def read_step(words, ids):
 
 
 def read_weight_set(words, map_):
-    key = words.number()
-    start = words.place
-    words.skip_block()
-    inner = [word for word, _ in words.words[start : words.place]]
-    map_.weight_sets[key] = [int(after) for word, after in zip(inner, inner[1:]) if word == "bucket_id"]
+    """Reads the rows of a weight set: of each bucket its weights for each position, and other ids."""
+    key, own = (ALL if words.peek() == UNSIGNED_ALL else words.number()), WeightSet({})
+    if key == ALL and words.peek() != "{":
+        words.next()
+    words.next("{")
+    while words.peek() == "{":
+        words.next("{")
+        bucket = None
+        while words.peek() != "}":
+            word = words.next()
+            if word == "bucket_id":
+                bucket = words.number()
+            elif word == "weight_set":
+                own.rows[bucket] = listed(words, lambda: listed(words, words.weight))
+            elif word == "ids":
+                own.with_ids += [bucket] if listed(words, words.number) else []
+            else:
+                raise words.fault(f"a weight set has no {word!r}")
+        words.next("}")
+    words.next("}")
+    map_.weight_sets[key] = own
+
+
+def listed(words, one):
+    """Returns what stands in brackets."""
+    found = []
+    words.next("[")
+    while words.peek() != "]":
+        found.append(one())
+    words.next("]")
+    return found

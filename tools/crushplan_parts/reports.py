@@ -14,8 +14,8 @@ NO_ROOM = "how full devices get isn't looked at (that takes df.json, osd-df.json
 
 
 class Stay:
-    """Copies that devices keep though they are out, since a rule takes them by name; and groups of
-    whole upmap lists that have to do with the devices, which aren't computed."""
+    """Copies that devices keep though they are out, since a rule takes them by name; and the pools that have to do with
+    the devices and aren't computed."""
 
     def __init__(self, plan, start, devices, changes):
         self.keeping = {}
@@ -23,22 +23,17 @@ class Stay:
             for device in plan.taken(it.pool) & set(devices):
                 if it.after.entries.get(device):
                     self.keeping[device] = self.keeping.get(device, 0) + it.after.entries[device]
-        self.unknown = start.unknown_groups(devices)
-        if self.unknown:
-            names = [plan.cluster.pools[pool].group_name(group) if pool in plan.cluster.pools else f"{pool}.{group:x}" for pool, group in self.unknown]
-            plan.notes.append(Note("pg_upmap", f"{counted(len(names), 'group')} with whole upmap lists may have to do with these devices: {some(names)}", pools={pool for pool, _ in self.unknown}, devices=devices, groups=names))
         own = set(devices)
-        self.left_out = [it for it in plan.notes if it.open and it.pools and it.kind != "pg_upmap" and (not it.devices or own & set(it.devices))]
+        self.left_out = [it for it in plan.notes if it.open and it.pools and (not it.devices or own & set(it.devices))]
         self.pools = [plan.cluster.pools[pool].name for it in self.left_out for pool in it.pools]
         self.names = [plan.map.name_of(it) for it in self.keeping]
 
     def is_unknown(self):
-        return bool(self.unknown or self.left_out)
+        return bool(self.left_out)
 
     def unknown_text(self):
         """Says what isn't computed and has to do with the devices."""
-        pools = [f"{'pool' if len(self.pools) == 1 else 'the pools'} {some(self.pools, 3)}"] if self.pools else []
-        return " and ".join(pools + ([f"{counted(len(self.unknown), 'group')} with whole upmap lists"] if self.unknown else []))
+        return f"{'pool' if len(self.pools) == 1 else 'the pools'} {some(self.pools, 3)}" if self.pools else ""
 
     def said(self):
         return [{"device": device, "copies": copies} for device, copies in sorted(self.keeping.items())]
@@ -130,7 +125,7 @@ def proved_text(summary, down):
     for it in summary.changes:
         takes = bool(plan.taken(it.pool) & set(down))
         by_name = by_name or takes
-        rest += 0 if takes else it.pool.pg_num - len(set(it.can_move) | set(plan.whole_lists.get(it.pool.id, ())))
+        rest += 0 if takes else it.pool.pg_num - len(it.can_move)
     also = ", and whose rule takes none of the devices by name" if by_name else ""
     return f"{rest:,} of {counted(summary.groups, 'group')} can't move: those in no impact list{also}"
 

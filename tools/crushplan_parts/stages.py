@@ -5,39 +5,47 @@ from .upmap_rules import Keeper
 
 
 class Stages:
-    """A cluster on its way. `pools` are ids; `pairs` and `changed`, the states of devices, are what
-    holds by now, and `texts` the maps that it had so far, beside its own."""
+    """A cluster on its way. `pools` are ids; `pairs`, `lists` and `changed`, the states of devices, are what holds by
+    now, and `texts` those of the maps that it had so far, beside its own."""
 
-    def __init__(self, plan, pools, pairs=None, changed=None, texts=()):
+    def __init__(self, plan, pools, before=None, texts=()):
+        """Takes the stages that came before, or None, and the texts of maps that are there beside the cluster's own."""
         self.plan, self.pools = plan, sorted(pools)
-        self.pairs = {it: dict((pairs or plan.pairs)[it]) for it in self.pools}
-        self.changed, self.texts, self.map = dict(changed or {}), list(texts), plan.map
+        pairs, lists = ((before.pairs, before.lists) if before else ({}, {}))
+        self.pairs = {it: dict(pairs.get(it, plan.pairs[it])) for it in self.pools}
+        self.lists = {it: dict(lists.get(it, plan.exceptions.lists.get(it, {}))) for it in self.pools}
+        self.changed, self.texts, self.map = dict(before.changed if before else {}), list(texts), plan.map
 
-    def begun(self, pools=None):
-        """Returns a run on the cluster as it is by now, for some of the pools."""
-        run = self.plan.run(self.pools if pools is None else pools, self.pairs)
+    def exceptions(self):
+        return self.plan.exceptions.with_lists({it: dict(own) for it, own in self.lists.items()})
+
+    def begun(self, pools=None, later=()):
+        """Returns a run on the cluster as it is by now, for some of the pools; `later` are the texts of the next map."""
+        run = self.plan.run(self.pools if pools is None else pools, {it: dict(own) for it, own in self.pairs.items()}, self.exceptions(), [*self.texts, *later])
         if self.changed:
             run.set_states(self.changed)
-        for it in self.texts:
-            run.import_map(it)
+        for _ in self.texts:
+            run.import_map()
         return run
 
     def keeper(self):
         # a device that a changed map brings counts as in and up, as it does for placement
-        return Keeper(self.map, lambda device: self.changed.get(device) or (self.plan.state(device) if device in self.plan.text.items else State()))
+        return Keeper(self.map, lambda device: self.changed.get(device) or (self.plan.state(device) if device in self.plan.known else State()))
 
     def remove_pairs(self, pool, raws):
-        """Takes away the pairs that the monitors don't keep; `raws` are raw lists by group. Returns
-        the groups whose pairs are others now."""
-        keeper, own, found = self.keeper(), self.pairs[pool], []
+        """Takes away the pairs and lists that the monitors don't keep; `raws` are raw lists by group. Returns
+        the groups of which others hold now."""
+        keeper, own, lists, found = self.keeper(), self.pairs[pool], self.lists[pool], []
         for group, raw in raws.items():
-            if group in own:
-                kept = keeper.kept_at_last(self.plan.pools[pool], raw, own[group])
-                if kept != list(own[group]):
+            if group in own or group in lists:
+                old = (list(own.get(group, ())), lists.get(group))
+                kept = keeper.kept_at_last(self.plan.pools[pool], raw, *old)
+                if kept != old:
                     found.append(group)
-                    own[group] = kept
-                    if not kept:
-                        del own[group]
+                    for of, value in zip((own, lists), kept):
+                        of.pop(group, None)
+                        if value:
+                            of[group] = value
         return found
 
     def again(self, dirty):
@@ -70,19 +78,20 @@ class Stages:
             found[-1][pool].update(own)
         return found
 
-    def set_map(self, map_, text, with_usage=False):
+    def set_map(self, map_, texts, with_usage=False):
         """Changes the map, and returns the groups that lie elsewhere then: up before and after, by
-        pool and group. `with_usage` also asks how much then lies where."""
-        run = self.begun()
-        with_pairs = {pool: sorted(own) for pool, own in self.pairs.items() if own}
-        before = {pool: run.lists(pool, groups) for pool, groups in with_pairs.items()}
-        run.import_map(text)
+        pool and group. `with_usage` also asks how much then lies where, and where groups with exceptions lie."""
+        run = self.begun(later=[texts])
+        groups = {pool: sorted(self.pairs[pool].keys() | self.plan.exceptions.of(pool)) for pool in self.pools}
+        groups = {pool: own for pool, own in groups.items() if own}
+        before = {pool: run.lists(pool, own) for pool, own in groups.items()}
+        run.import_map()
         moves = {pool: run.moves_to(pool) for pool in self.pools}
-        after = {pool: run.lists(pool, groups) for pool, groups in with_pairs.items()}
+        after = {pool: run.lists(pool, own) for pool, own in groups.items()}
         usages = {pool: run.usage(pool) for pool in self.pools if with_usage}
         self.plan.answer(run)
         self.map = map_
-        self.texts.append(text)
+        self.texts.append(texts)
         found = {pool: run.moves(place) for pool, place in moves.items()}
         self.usages = {pool: run.counted(it) for pool, it in usages.items()}
         old, new = ({pool: run.placements(it) for pool, it in own.items()} for own in (before, after))
@@ -91,8 +100,8 @@ class Stages:
             if with_usage:
                 self.usages[pool] = self.usages[pool].after([(new[pool][group], it) for group, it in own.items()])
             new[pool].update(own)
-        for pool, groups in with_pairs.items():
-            for group in groups:
+        for pool, own in groups.items():
+            for group in own:
                 found[pool].pop(group, None)
                 if old[pool][group].up != new[pool][group].up:
                     found[pool][group] = (old[pool][group].up, new[pool][group].up)

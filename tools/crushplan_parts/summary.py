@@ -226,7 +226,7 @@ def shares_of(plan, pool, states, key):
 
 def devices_of(plan, changes, states, quick):
     """Returns each placed device with how full it is before and after."""
-    found = {it: Device(it) for it in plan.tree.placed_devices() if it in plan.text.items}
+    found = {it: Device(it) for it in plan.tree.placed_devices() if it in plan.known}
     before, after, own = Expected(), Expected(), {}
     for change in changes:
         pool = change.pool

@@ -28,21 +28,27 @@ class Keeper:
     def may_be(self, device):
         return self.states(device).reweight > 0
 
-    def kept(self, pool, raw, pairs):
-        """Returns the pairs of a group that stay, where CRUSH gives it a raw list."""
-        items, _ = pair_remarks(raw, pairs, self.may_be)
-        if self.broken(pool, items):
-            return []
-        return [(old, new) for old, new in pairs if old in raw and self.may_be(new)]
+    def kept(self, pool, raw, pairs, whole=None):
+        """Returns the pairs of a group that stay, where CRUSH gives it a raw list, and its whole list or None."""
+        items = list(raw) if whole is None or self.is_idle(whole) else list(whole)
+        if whole is None or not self.is_idle(whole):
+            items, _ = pair_remarks(items, pairs, self.may_be)
+        if self.broken(pool, items) or whole is not None and (list(whole) == list(raw) or len(whole) != pool.size):
+            return [], None
+        return [(old, new) for old, new in pairs if old in raw and self.may_be(new)], whole
 
-    def kept_at_last(self, pool, raw, pairs):
-        """Returns the pairs that stay once nothing more is removed: each removal is a change of
+    def is_idle(self, whole):
+        """Returns whether a whole list doesn't act: neither do the pairs of its group then."""
+        return any(it is not None and not self.may_be(it) for it in whole)
+
+    def kept_at_last(self, pool, raw, pairs, whole=None):
+        """Returns the pairs and the whole list that stay once nothing more is removed: each removal is a change of
         the map, at which they are looked at again."""
         while True:
-            found = self.kept(pool, raw, pairs)
-            if found == list(pairs):
-                return found
-            pairs = found
+            found, left = self.kept(pool, raw, pairs, whole)
+            if found == list(pairs) and left == whole:
+                return found, left
+            pairs, whole = found, left
 
     def broken(self, pool, items):
         """Returns why a list breaks its pool's rule, or None where it doesn't."""

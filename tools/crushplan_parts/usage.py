@@ -31,7 +31,9 @@ def usage(plan, asked):
     places = {it.id: run.usage(it.id) for it in pools}
     lists = {it.id: run.lists(it.id, range(it.pg_num)) for it in pools} if asked.groups else {}
     plan.answer(run)
-    changes = [PoolChange(it, run.counted(places[it.id]), set(), []) for it in pools]
+    usages = {it.id: run.counted(places[it.id]) for it in pools}
+    plan.doubt_usage(usages)
+    changes = [PoolChange(it, usages[it.id], set(), []) for it in pools]
     others = devices_of_others(plan)
     devices = [it for it in devices_of(plan, changes, plan.state, True) if it.after or it.expected_after[0] or not asked.pool and it.id not in others]
     type_ = plan.tree.type_number(asked.by or "osd")

@@ -5,6 +5,7 @@ import re
 
 from .crush_map import MOST_DEVICES, ONE
 
+MARK = "# crushcalc: straw2"  # the first line of a text that has straw2 buckets
 NAME = re.compile(r"[A-Za-z0-9_.-]{1,64}")
 KEYWORDS = {"tunable", "device", "type", "rule", "choose_args", "class"}
 
@@ -31,27 +32,39 @@ class Names:
 
 
 class Text:
-    """The text of a map, its lines, and what is declared from each line on."""
+    """The text of a map, its lines, and what is declared from each line on. It declares the devices of the map and some
+    more, or where `rows` are given, those alone that are given; `rows` are weights of buckets' items in the place of
+    the map's."""
 
-    def __init__(self, map_, buckets, rules, more_devices=(), with_classes=False):
+    def __init__(self, map_, buckets, rules, devices=(), with_classes=False, rows=None):
         self.map, self.lines, self.declared = map_, [], []
         self.names, self.items = Names(), {}
-        self.with_classes = with_classes
-        self.fillers = iter(free_ids(map_, more_devices))
+        self.with_classes, self.rows, self.whole = with_classes, rows or {}, None
+        known = set(devices) if rows is not None else {*map_.devices, *devices}
+        self.fillers = iter(free_ids(map_, known))
         self.filled = {}  # the device that stands in a hole, by its bucket and place
         for bucket in buckets:
             for place in map_.buckets[bucket].holes():
                 self.filled[bucket, place] = next(self.fillers)
+        if any(map_.buckets[it].alg == "straw2" for it in buckets):
+            self.lines.append(MARK)
+        self.own_devices = known
         self.write_tunables()
-        self.write_devices(more_devices)
+        self.write_devices(known)
         self.write_types()
         for bucket in in_order(map_, buckets):
             self.write_bucket(map_.buckets[bucket])
         for rule in rules:
             self.write_rule(map_.rules[rule])
 
+    def devices(self):
+        """Returns the devices that it declares, without those that fill holes."""
+        return self.own_devices
+
     def text(self):
-        return "\n".join(self.lines) + "\n"
+        if self.whole is None:
+            self.whole = "\n".join(self.lines) + "\n"
+        return self.whole
 
     def at_line(self, number):
         """Returns what the declaration is of that a line belongs to: a kind and a key."""
@@ -65,8 +78,8 @@ class Text:
             self.declare(("tunable", name))
             self.lines.append(f"tunable {name} {value}")
 
-    def write_devices(self, more):
-        devices = {**{id_: f"osd.{id_}" for id_ in more}, **self.map.devices, **{id_: f"hole.{id_}" for id_ in self.filled.values()}}
+    def write_devices(self, known):
+        devices = {**{id_: self.map.devices.get(id_, f"osd.{id_}") for id_ in known}, **{id_: f"hole.{id_}" for id_ in self.filled.values()}}
         for id_, name in sorted(devices.items()):
             self.items[id_] = self.names.give(name, f"device-{id_}")
             self.declare(("device", id_))
@@ -91,8 +104,10 @@ class Text:
                 if it.shadow and it.name == f"{bucket.name}~{it.shadow}" and NAME.fullmatch(it.shadow):
                     self.lines.append(f"\tid {it.id} class {it.shadow}")
         self.lines += [f"\talg {bucket.alg}", "\thash 0"]
+        row = self.rows.get(bucket.id)
         for place, (item, weight) in enumerate(bucket.items):
             item = self.filled[bucket.id, place] if item is None else item
+            weight = weight if row is None else row[place]
             self.lines.append(f"\titem {self.items[item]} weight {exact(weight)}" + (f" pos {place}" if bucket.alg == "tree" else ""))
         self.lines.append("}")
 

@@ -6,7 +6,7 @@ ghost use Rattle.crush_choose.specs.Rules.{CanRun};
 
 use crate::drafts::{JEWEL, ONE, SOUND, Short, bucket, choose, draft, generated, map_of};
 use crate::same::{assert_same, assert_same_at};
-use Kind::{List, Tree, Uniform};
+use Kind::{List, Straw2, Tree, Uniform};
 use crush_bucket::{Scratch, Tables};
 use crush_choose::{Out, laws, run_rule};
 use crush_map::{Bucket, CrushMap, ItemId, Kind, Listed, MapDraft, Rule, Step, Tunables};
@@ -183,16 +183,18 @@ pub(crate) fn three_levels(alloc: Global, kinds: [Kind; 3]) -> Result<Listed<Buc
 }
 
 /// The maps that are asked with: the kinds of their levels, and tunables.
-pub(crate) const MAPS: [([Kind; 3], Tunables); 4] = [
+pub(crate) const MAPS: [([Kind; 3], Tunables); 6] = [
     ([Uniform, Uniform, Uniform], JEWEL),
     ([List, Tree, Uniform], JEWEL),
     ([Tree, Uniform, List], LEGACY),
     ([Uniform, List, Tree], JEWEL),
+    ([Straw2, Straw2, Straw2], JEWEL),
+    ([Straw2, List, Straw2], LEGACY),
 ];
 
 /// Rules, the size of their answers, and for each map the answers of Ceph 16's `crush_do_rule` for
 /// the inputs 0 to 255, folded: each answer's length, then its items.
-const CEPH: &[(&[Step], u32, [u64; 4])] = &[
+const CEPH: &[(&[Step], u32, [u64; 6])] = &[
     (
         &[TAKE, choose!(true, true, 0, 1), Step::Emit],
         3,
@@ -201,6 +203,8 @@ const CEPH: &[(&[Step], u32, [u64; 4])] = &[
             18_048_420_480_162_125_570,
             17_536_999_028_562_930_735,
             10_816_615_174_515_526_027,
+            5_010_844_985_088_824_188,
+            10_817_274_557_932_030_874,
         ],
     ),
     (
@@ -211,6 +215,8 @@ const CEPH: &[(&[Step], u32, [u64; 4])] = &[
             16_721_794_470_335_731_706,
             5_483_228_420_429_574_797,
             8_327_422_269_455_782_072,
+            6_723_066_646_272_189_231,
+            1_847_745_543_238_163_681,
         ],
     ),
     (
@@ -226,6 +232,8 @@ const CEPH: &[(&[Step], u32, [u64; 4])] = &[
             1_014_626_217_314_726_295,
             9_402_257_624_218_875_910,
             17_757_232_518_577_059_376,
+            11_696_602_303_180_473_907,
+            6_574_477_913_600_582_284,
         ],
     ),
     (
@@ -242,6 +250,8 @@ const CEPH: &[(&[Step], u32, [u64; 4])] = &[
             11_002_362_456_765_460_424,
             2_348_716_031_292_611_665,
             15_084_550_848_256_080_900,
+            12_621_289_222_631_597_293,
+            4_726_288_186_643_259_065,
         ],
     ),
     (
@@ -257,6 +267,8 @@ const CEPH: &[(&[Step], u32, [u64; 4])] = &[
             8_311_613_070_073_344_042,
             15_204_746_254_507_233_706,
             13_979_105_725_287_320_028,
+            596_836_641_283_440_923,
+            7_105_628_610_550_465_560,
         ],
     ),
     (
@@ -275,6 +287,8 @@ const CEPH: &[(&[Step], u32, [u64; 4])] = &[
             16_726_343_070_574_783_190,
             3_670_159_996_726_261_018,
             8_270_607_647_852_297_127,
+            15_533_890_943_132_612_280,
+            4_780_197_633_995_699_892,
         ],
     ),
     (
@@ -292,6 +306,8 @@ const CEPH: &[(&[Step], u32, [u64; 4])] = &[
             2_499_802_041_352_248_513,
             15_521_425_309_525_994_889,
             17_432_411_674_119_360_449,
+            15_786_882_971_777_810_504,
+            3_951_047_493_312_607_494,
         ],
     ),
 ];

@@ -3,7 +3,9 @@
 ghost use Rattle.std.specs.Prelude.{◌≡◌};
 ghost use Rattle.crush_kinds.specs.Pick.{perm_of};
 
-use crush_kinds::{ListBucket, Perm, Picker, TreeBucket, UniformBucket, can_be_asked};
+use crush_kinds::{
+    ListBucket, Perm, Picker, Straw2Bucket, TreeBucket, UniformBucket, can_be_asked,
+};
 use crush_map::{ItemId, Kind, Weight, has_equal_weights};
 use std::alloc::{AllocError, Global};
 use std::io;
@@ -59,6 +61,10 @@ pub(crate) fn measure<R: AllocGlobal + Clock>(
             let bucket = TreeBucket::build(alloc, ID, &entries)?;
             measure_bucket(rt, &bucket, perm, questions)
         }
+        Kind::Straw2 => {
+            let bucket = Straw2Bucket::build(alloc, ID, &entries)?;
+            measure_bucket(rt, &bucket, perm, questions)
+        }
     }
 }
 
@@ -68,7 +74,7 @@ fn entries_of(alloc: Global, kind: Kind, size: u32) -> Result<Vec<(ItemId, Weigh
     for n in 0..size.min(65_535) {
         let weight = match kind {
             Kind::Uniform => ONE,
-            Kind::List | Kind::Tree => ONE * (1 + n % 4),
+            Kind::List | Kind::Tree | Kind::Straw2 => ONE * (1 + n % 4),
         };
         entries.push((ItemId(n as i32), Weight(weight)))?;
     }

@@ -75,6 +75,7 @@ fn small<R: AllocGlobal + Clock + Print>(rt: &R) -> io::Result<ExitCode> {
     list_small(rt, "uniform", Kind::Uniform, &[8, 32, 128, 1_024])?;
     list_small(rt, "list", Kind::List, &[8, 32, 128, 1_024])?;
     list_small(rt, "tree", Kind::Tree, &[8, 32, 64, 128, 1_024])?;
+    list_small(rt, "straw2", Kind::Straw2, &[8, 12, 32, 128, 1_000])?;
     Ok(ExitCode::SUCCESS)
 }
 

@@ -96,6 +96,7 @@ fn kind_of(word: &str) -> Option<Kind> {
         "1" => Some(Kind::Uniform),
         "2" => Some(Kind::List),
         "3" => Some(Kind::Tree),
+        "5" => Some(Kind::Straw2),
         _ => None,
     }
 }

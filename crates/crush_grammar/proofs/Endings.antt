@@ -7,7 +7,7 @@ use Rattle.crush_map.specs.WeightText.{weight_of}
 use Rattle.crush_words.specs.Words.{Word}
 use Rattle.crush_words.specs.Numbers.{number_of, integer_of}
 use Rattle.crush_grammar.specs.Sayings.{name_of, type_of, tunable_of, alg_of, hash_of, rule_id_of, erasure_of, firstn_of, setting_of}
-use Rattle.crush_grammar.specs.Fronts.{is, is_token, last_line}
+use Rattle.crush_grammar.specs.Fronts.{is, is_token, word, last_line}
 use Rattle.crush_grammar.specs.Automaton.{State, Move, Reading, reading, step, give, with_item, to, wrong, on, first, begun_bucket, begun, in_lines, plain, in_items, in_pos, in_steps, at_max, action, at_end}
 use Rattle.crush_grammar.specs.Automaton.State.{Between, TunableWord, TunableKey, DeviceWord, DeviceNumber, DeviceName, ClassWord, TypeWord, TypeNumber, BucketType, BucketName, IdLines, IdWord, IdNumber, IdClass, AlgWord, Hashes, HashWord, Items, ItemWord, ItemName, WeightWord, ItemWeight, PosWord, RuleWord, RuleName, RuleOpen, RuleId, RuleNumber, RuleType, RuleKind, MinWord, RuleMin, MaxWord, RuleMax, StepWord, TakeWord, Taken, SetWord, ChooseWord, ChooseHow, ChooseNumber, ChooseType, Steps, Dead}
 use Rattle.crush_grammar.specs.declared.code.TextCode.{TextCode}
@@ -29,7 +29,7 @@ Ends p line ws = (reading p line ws).fault ≡ None
 -- words that end a text
 abbrev pub say : List (List ℕ) → List Word
 say [] = []
-say (t ∷ ts) = record { line = 0; text = t } ∷ say ts
+say (t ∷ ts) = word t ∷ say ts
 
 abbrev pub close : List (List ℕ)
 close = codes "}" ∷ []
@@ -218,7 +218,7 @@ step_at (IdWord h o) x a = at_on x X1 (integer_of x.text) _ (λ v. tt)
 step_at (IdNumber h None i) x a = at_two X1 x (is (codes "class") x) _ _ (λ e. tt) (λ f. plain_at h None i x)
 step_at (IdNumber h (Some j) i) x a = at_two X1 x (is (codes "class") x) _ _ (λ e. tt) (λ f. plain_at h (Some j) i x)
 step_at (IdClass h o) x a = at_on x X1 (name_of x.text) _ (λ v. tt)
-step_at (AlgWord h i) x a = at_on x _ (alg_of x.text) _ (λ v. tt)
+step_at (AlgWord h i) x a = at_on x _ (alg_of x) _ (λ v. tt)
 step_at (Hashes b) x a = at_two X1 x (is (codes "hash") x) _ _ (λ e. tt) (λ f. items_at b x)
 step_at (HashWord b) x a = at_on x X1 (hash_of x.text) _ (λ v. tt)
 step_at (Items b) x a = items_at b x
@@ -355,7 +355,7 @@ done_at (IdWord h o) x a = none_on x X1 (integer_of x.text) _ (λ v h. refl)
 done_at (IdNumber h None i) x a = none_two (is (codes "class") x) _ _ (λ h. refl) (plain_none h None i x)
 done_at (IdNumber h (Some j) i) x a = none_two (is (codes "class") x) _ _ (λ h. refl) (plain_none h (Some j) i x)
 done_at (IdClass h o) x a = none_on x X1 (name_of x.text) _ (λ v h. refl)
-done_at (AlgWord h i) x a = none_on x _ (alg_of x.text) _ (λ v h. refl)
+done_at (AlgWord h i) x a = none_on x _ (alg_of x) _ (λ v h. refl)
 done_at (Hashes b) x a = none_two (is (codes "hash") x) _ _ (λ h. refl) (items_none b x)
 done_at (HashWord b) x a = none_on x X1 (hash_of x.text) _ (λ v h. refl)
 done_at (Items b) x a = items_none b x

@@ -7,8 +7,8 @@ use Rattle.std.proofs.lemmas.Slice.Eq.{bytes_eq-Decides}
 use Rattle.crush_types.specs.declared.Weight.{Weight as MapWeight}
 use Rattle.crush_words.specs.Words.{Word}
 use Rattle.crush_words.specs.Numbers.{number_of, integer_of}
-use Rattle.crush_grammar.specs.Sayings.{type_of, alg_of, setting_of}
-use Rattle.crush_grammar.specs.Syntax.{Keyword, Saying, optional, Class, Clause, clause_words, Early, early_words, early_declares, ClassId, class_id_words, Hash, Weight, Pos, Item, item_words, item_declares, Bucket, bucket_words, Action, action_words, action_declares, Step, step_words, Rule, rule_words, Late, late_words, late_declares, Declares}
+use Rattle.crush_grammar.specs.Sayings.{type_of, setting_of}
+use Rattle.crush_grammar.specs.Syntax.{Keyword, Saying, Algorithm, optional, Class, Clause, clause_words, Early, early_words, early_declares, ClassId, class_id_words, Hash, Weight, Pos, Item, item_words, item_declares, Bucket, bucket_words, Action, action_words, action_declares, Step, step_words, Rule, rule_words, Late, late_words, late_declares, Declares}
 use Rattle.crush_grammar.specs.Syntax.Early.{ATunable, ADevice, AType}
 use Rattle.crush_grammar.specs.Syntax.Late.{ABucket, ARule}
 use Rattle.crush_grammar.specs.Syntax.Action.{ATake, ASet, AChoose, AChooseLeaf, AnEmit}
@@ -79,7 +79,7 @@ ids_lack : (cs : List ClassId) (ys : List Word) → Lacks (codes "class") ys →
 ids_lack [] ys h = h
 ids_lack (c ∷ cs) ys h = rw c.id.is refl
 
-alg_reads : (h : BucketHead) (i : ℤ) (k : Keyword (codes "alg")) (a : Saying alg_of) (ys : List Word) (r : Reading) → Reads (Hashes (record { head = h; id = i; alg = a.value; items = [] })) ys r → Reads (IdLines h (Some i)) (k.word ∷ a.word ∷ ys) r
+alg_reads : (h : BucketHead) (i : ℤ) (k : Keyword (codes "alg")) (a : Algorithm) (ys : List Word) (r : Reading) → Reads (Hashes (record { head = h; id = i; alg = a.value; items = [] })) ys r → Reads (IdLines h (Some i)) (k.word ∷ a.word ∷ ys) r
 unfolding step
 alg_reads h i k a ys r g line = rw (k.is, a.is) (g a.word.line)
 

@@ -4,11 +4,12 @@ use Rattle.std.specs.List.{flat_map}
 use Rattle.std.specs.Prelude.{option_map}
 use Rattle.std.proofs.lemmas.List.{append-nil}
 use Rattle.std.proofs.lemmas.Slice.Eq.{bytes_eq-Decides}
+use Rattle.crush_types.specs.declared.Kind.{Kind}
 use Rattle.crush_map.specs.WeightText.{weight_of}
 use Rattle.crush_words.specs.Words.{Word}
 use Rattle.crush_words.specs.Numbers.{number_of, integer_of}
 use Rattle.crush_grammar.specs.Sayings.{name_of, type_of, tunable_of, alg_of, hash_of, rule_id_of, erasure_of, firstn_of, setting_of}
-use Rattle.crush_grammar.specs.Syntax.{Keyword, Saying, Name, optional, Class, clause_words, Early, early_words, early_declares, class_id_words, Hash, Weight, Pos, Item, item_words, item_declares, Bucket, Action, action_words, action_declares, Step, step_words, Rule, Late, late_words, late_declares, Declares}
+use Rattle.crush_grammar.specs.Syntax.{Keyword, Saying, Algorithm, Name, optional, Class, clause_words, Early, early_words, early_declares, class_id_words, Hash, Weight, Pos, Item, item_words, item_declares, Bucket, Action, action_words, action_declares, Step, step_words, Rule, Late, late_words, late_declares, Declares}
 use Rattle.crush_grammar.specs.Syntax.Early.{ATunable, ADevice, AType}
 use Rattle.crush_grammar.specs.Syntax.Late.{ABucket, ARule}
 use Rattle.crush_grammar.specs.Syntax.Action.{ATake, ASet, AChoose, AChooseLeaf, AnEmit}
@@ -82,7 +83,7 @@ abbrev AfterHashes : DeclaredBucket → List Declaration → List Word → Type 
 AfterHashes b ds ws = Many {X = Hash} clause_words (λ hs us. AfterItems b ds us) ws
 
 abbrev AfterAlg : BucketHead → ℤ → List Declaration → List Word → Type 0
-AfterAlg h i ds ws = Said alg_of (λ w a us. AfterHashes (record { head = h; id = i; alg = a; items = [] }) ds us) ws
+AfterAlg h i ds ws = Next (λ (a : Algorithm). a.word) (λ a us. AfterHashes (record { head = h; id = i; alg = a.value; items = [] }) ds us) ws
 
 abbrev AfterIds : BucketHead → ℤ → List Declaration → List Word → Type 0
 AfterIds h i ds ws = Many class_id_words (λ cs us. Keyed (codes "alg") (λ vs. AfterAlg h i ds vs) us) ws
@@ -181,6 +182,10 @@ bad p w c ws r h = absurd h
 value : {V : Type 0} (p : State) (w : Word) (c : TextCode) (read : List ℕ → Option V) (next : V → Move) (o : Option V) → read w.text ≡ o → ((x : Saying read) → x.word ≡ w → Joins p w (next x.value)) → Joins p w (on c w o next)
 value p w c read next (Some n) e more = more (record { word = w; value = n; is = e }) refl
 value p w c read next None e more = λ ws r h. absurd h
+
+algorithm : (p : State) (w : Word) (c : TextCode) (next : Kind → Move) (o : Option Kind) → alg_of w ≡ o → ((x : Algorithm) → x.word ≡ w → Joins p w (next x.value)) → Joins p w (on c w o next)
+algorithm p w c next (Some k) e more = more (record { word = w; value = k; is = e }) refl
+algorithm p w c next None e more = λ ws r h. absurd h
 
 is_text : (text : List ℕ) (w : Word) → is text w ≡ true → w.text ≡ text
 is_text text w e = (bytes_eq-Decides w.text text).0 e
@@ -343,7 +348,7 @@ join (IdNumber h o i) w = two (IdNumber h o i) w (is (codes "class") w) _ _
     (λ e ws r (c, us, a, g). inl (record { key = is_key (codes "class") w e; value = c }, us, cc, g))
     (λ e ws r a. inr (plain_join h o i w ws r a))
 join (IdClass h o) w = value (IdClass h o) w X1 name_of _ (name_of w.text) refl (λ x e ws r a. (x, ws, cc, a))
-join (AlgWord h i) w = value (AlgWord h i) w _ alg_of _ (alg_of w.text) refl (λ x e ws r a. (x, ws, cc, a))
+join (AlgWord h i) w = algorithm (AlgWord h i) w _ _ (alg_of w) refl (λ x e ws r a. (x, ws, cc, a))
 join (Hashes b) w = two (Hashes b) w (is (codes "hash") w) _ _
     (λ e ws r (v, us, a, (hs, vs, f, g)). (record { key = is_key (codes "hash") w e; value = v } ∷ hs, vs, cc, g))
     (λ e ws r h. ([], w ∷ ws, refl, in_items_join b w ws r h))

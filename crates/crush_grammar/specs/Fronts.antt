@@ -1,5 +1,5 @@
 -- Where words leave the grammar, and what is declared before.
-use Rattle.std.specs.Prelude.{◌≡◌, ℕ, suc, ◌<◌, ◌||◌, ◌⊎◌, true, codes, bytes_eq, Bool, List, [], ◌∷◌, ◌++◌, length, take, slice_get, Some, IsSomeAnd, is_some}
+use Rattle.std.specs.Prelude.{◌≡◌, ℕ, suc, ◌<◌, ◌||◌, ◌⊎◌, true, false, codes, bytes_eq, Bool, List, [], ◌∷◌, ◌++◌, length, take, slice_get, Some, IsSomeAnd, is_some}
 use Rattle.crush_types.specs.declared.Weight.{Weight}
 use Rattle.crush_words.specs.Words.{Word}
 use Rattle.crush_grammar.specs.Sayings.{name_of}
@@ -42,7 +42,8 @@ abbrev pub word : List ℕ → Word
 word text = record { line = 0; text = text; straw2 = false }
 
 -- straw or straw2 as the algorithm of a bucket: with list and a brace after it, the front is a text
--- that ends with a bucket without items, so that list is the algorithm there
+-- that ends with a bucket without items, so that list is the algorithm there. In a text that asks
+-- for straw2 that word is of the grammar there, so that straw alone is wrong
 abbrev pub IsStraw : List Word → Word → Type 0
 IsStraw front w =
     ((is (codes "straw") w || is (codes "straw2") w) ≡ true)

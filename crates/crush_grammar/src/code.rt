@@ -7,7 +7,7 @@ use crush_map::FaultCode;
 pub enum TextCode {
     /// A word is not of the grammar, or the text ends too early.
     X1,
-    /// A bucket is of the kind straw or straw2.
+    /// A bucket is of the kind straw, or of the kind straw2 in a text that doesn't ask for it.
     X2,
     /// A class follows the item of a take step.
     X3,

@@ -156,11 +156,15 @@ pub(crate) fn tunable(word: &Word<'_>) -> Result<TunableName, ReadError>
     }
 }
 
-/// Reads the algorithm that a word names. `None`: it names none.
+/// Reads the algorithm that a word names, which is straw2 in a text that asks for it alone.
+/// `None`: it names none.
 #[tactic(auto, unfolding(crate::specs::Sayings::alg_of))]
 pub(crate) fn alg_of(word: &Word<'_>) -> Option<Kind>
-    ensures { result ≡ spec.alg_of word.now.text }
+    ensures { result ≡ spec.alg_of word.now }
 {
+    if word.asks_for_straw2() && is(Kind::Straw2.name().as_bytes(), word) {
+        return Some(Kind::Straw2);
+    }
     Kind::named(word.text())
 }
 

@@ -10,7 +10,8 @@ use crush_types::{ItemId, Kind, Weight};
 use std::alloc::{AllocError, Global};
 use std::marker::Model;
 
-/// A bucket whose items weigh the same: it picks by a permutation of its places. Contracts see the bucket.
+/// A bucket whose items weigh the same: it picks by a permutation of its places. Contracts see the
+/// bucket.
 #[derive(Drop)]
 pub struct UniformBucket {
     bucket: AnyBucket,

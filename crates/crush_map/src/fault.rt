@@ -16,7 +16,7 @@ pub enum FaultCode {
     M5,
     /// An item occurs twice in a bucket.
     M6,
-    /// The sum of a bucket's weights is over 2^32 - 1.
+    /// The sum of a bucket's weights is over 2^32 - 1, or one of straw2 is over 2^31 - 1.
     M7,
     /// The weights in a uniform bucket differ.
     M8,

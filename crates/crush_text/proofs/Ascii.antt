@@ -1,5 +1,5 @@
 -- Canonical texts are ASCII.
-use Rattle.std.proofs.Common.{◌≡◌, ℕ, ℤ, pos, negsuc, suc, ◌<◌, ◌≤◌, ◌&&◌, nat_le, List, [], ◌∷◌, ◌++◌, length, Bool, true, false, refl, arith, codes, Option, Some, None, IfSome, slice_get}
+use Rattle.std.proofs.Common.{◌≡◌, ℕ, ℤ, pos, negsuc, suc, ◌<◌, ◌≤◌, ◌&&◌, nat_le, List, [], ◌∷◌, ◌++◌, length, Bool, true, false, refl, arith, codes, Option, Some, None, IfSome, slice_get, if◌then◌else◌}
 use Rattle.std.proofs.lemmas.Bool.Decides.{nat_tests}
 use Rattle.std.proofs.lemmas.Fmt.{IsAscii-decimal}
 use Rattle.std.proofs.lemmas.Str.{IsAscii-append, IsUtf8-from_ascii}
@@ -20,12 +20,14 @@ use Rattle.crush_map.specs.declared.draft.Tunables.{Tunables}
 use Rattle.crush_types.specs.declared.ItemId.{ItemId}
 use Rattle.crush_types.specs.declared.Weight.{Weight}
 use Rattle.crush_types.specs.declared.Kind.{Kind}
-use Rattle.crush_types.specs.declared.Kind.TheVariants.{Uniform, List as ListKind, Tree}
+use Rattle.crush_types.specs.declared.Kind.TheVariants.{Uniform, List as ListKind, Tree, Straw2}
+use Rattle.crush_types.specs.Kinds.{kind_name}
+use Rattle.crush_map.specs.Mark.{straw2_mark}
 use Rattle.crush_map.specs.Faults.{is_name, is_name_byte}
 use Rattle.crush_map.specs.Map.{Map}
 use Rattle.crush_map.specs.Sound.{IsTypeAt, IsDeviceAt, IsBucketAt, IsRuleAt}
 use Rattle.crush_map.specs.WeightText.{text_of}
-use Rattle.crush_writing.specs.Canonical.{line, inner_line, type_name, item_name, tunable_line, tunable_lines, device_line, type_line, alg_text, item_line, bucket_lines, choose_text, firstn_text, step_line, erasure_text, rule_lines, canonical}
+use Rattle.crush_writing.specs.Canonical.{line, inner_line, type_name, item_name, tunable_line, tunable_lines, device_line, type_line, item_line, bucket_lines, choose_text, firstn_text, step_line, erasure_text, rule_lines, has_straw2, mark_line, canonical}
 use Rattle.crush_text.proofs.Spelt.{both}
 use Rattle.crush_text.proofs.Numerals.{IsWithin}
 use Rattle.crush_text.proofs.Trees.{HasForm, IsWritten, StepForm, IsWrittenRule, all_mapped}
@@ -110,10 +112,11 @@ of_item m x form =
     of_inner_line (codes "item" ∷ item_name m x.0.0 ∷ codes "weight" ∷ text_of x.1 ∷ [])
     (fixed (codes "item") refl, (name (item_name m x.0.0) form.name, (fixed (codes "weight") refl, (name (text_of x.1) form.word, tt))))
 
-of_alg : (a : Kind) → IsAscii (alg_text a)
+of_alg : (a : Kind) → IsAscii (kind_name a)
 of_alg Uniform = fixed (codes "uniform") refl
 of_alg ListKind = fixed (codes "list") refl
 of_alg Tree = fixed (codes "tree") refl
+of_alg Straw2 = fixed (codes "straw2") refl
 
 of_bucket : (m : Map) (b : Bucket) → IsWritten m b → IsAscii (bucket_lines m b)
 unfolding bucket_lines
@@ -121,7 +124,7 @@ of_bucket m b form =
     let kind = type_name m.types b.kind_of in
     let head = of_line (kind ∷ b.name ∷ codes "{" ∷ []) (name kind form.type_form, (name b.name form.name, (fixed (codes "{") refl, tt))) in
     let id = of_inner_line (codes "id" ∷ signed_decimal b.id.0 ∷ []) (fixed (codes "id") refl, (integer b.id.0 form.id, tt)) in
-    let alg = of_inner_line (codes "alg" ∷ alg_text b.alg ∷ []) (fixed (codes "alg") refl, (of_alg b.alg, tt)) in
+    let alg = of_inner_line (codes "alg" ∷ kind_name b.alg ∷ []) (fixed (codes "alg") refl, (of_alg b.alg, tt)) in
     let hash = of_inner_line (codes "hash" ∷ codes "0" ∷ []) (fixed (codes "hash") refl, (fixed (codes "0") refl, tt)) in
     let items = each (item_line m) b.items (all_mapped (HasForm m) (λ x. IsAscii (item_line m x)) b.items (of_item m) form.items) in
     let closing = of_line (codes "}" ∷ []) (fixed (codes "}") refl, tt) in
@@ -182,13 +185,21 @@ eleven a b c d e f g h i j k p q r s t u v w x y z =
     let most = IsAscii-append (a ++ b ++ c ++ d ++ e ++ f ++ g ++ h) i (IsAscii-append (a ++ b ++ c ++ d ++ e ++ f ++ g) h more w) x in
     IsAscii-append (a ++ b ++ c ++ d ++ e ++ f ++ g ++ h ++ i ++ j) k (IsAscii-append (a ++ b ++ c ++ d ++ e ++ f ++ g ++ h ++ i) j most y) z
 
+of_mark_by : (marked : Bool) → IsAscii (if marked then line (straw2_mark ∷ []) else [])
+of_mark_by true = of_line (straw2_mark ∷ []) (fixed straw2_mark refl, tt)
+of_mark_by false = IsAscii-nil
+
+of_mark : (m : Map) → IsAscii (mark_line m)
+unfolding mark_line
+of_mark m = of_mark_by (has_straw2 m)
+
 pub ascii : (m : Map) → Sound m → IsAscii (canonical m)
 unfolding canonical
 ascii m s =
     let r = ranges m.tunables s.tunables in
-    eleven (codes "# begin crush map\n") (tunable_lines m.tunables) (codes "\n# devices\n") (flat_map device_line m.devices) (codes "\n# types\n") (flat_map type_line m.types)
+    eleven (mark_line m ++ codes "# begin crush map\n") (tunable_lines m.tunables) (codes "\n# devices\n") (flat_map device_line m.devices) (codes "\n# types\n") (flat_map type_line m.types)
     (codes "\n# buckets\n") (flat_map (bucket_lines m) m.buckets) (codes "\n# rules\n") (flat_map (rule_lines m) m.rules) (codes "\n# end crush map\n")
-    (fixed (codes "# begin crush map\n") refl)
+    (IsAscii-append (mark_line m) (codes "# begin crush map\n") (of_mark m) (fixed (codes "# begin crush map\n") refl))
     (of_tunables m.tunables (let low = r.total_tries in omega arith) (let low = r.descend_once in omega arith) (let low = r.vary_r in omega arith) (let low = r.stable in omega arith))
     (fixed (codes "\n# devices\n") refl)
     (of_each IsDeviceAt device_line m.devices (λ i d is. of_device d is.id is.name) s.devices)

@@ -4,8 +4,8 @@
 use Rattle.std.proofs.Common.{◌≡◌, ◌∙◌, ◌+◌, ◌==◌, ◌||◌, ◌&&◌, nat_lt, nat_le, length, Bool, true, false, not, Option, Some, None, List, [], ◌∷◌, ◌++◌, ℕ, ℤ, pos, negsuc, refl, sym, ap, map, fold}
 use Rattle.std.proofs.lemmas.List.Folds.{list_any-append}
 use Rattle.std.proofs.lemmas.List.Sums.{fold-append}
-use Rattle.crush_map.specs.declared.limits.TheConstants.{BUCKET_LIMIT, ITEM_LIMIT, TOTAL_WEIGHT_LIMIT}
-use Rattle.crush_types.specs.Weights.{has_equal_weights, total_weight}
+use Rattle.crush_map.specs.declared.limits.TheConstants.{BUCKET_LIMIT, ITEM_LIMIT}
+use Rattle.crush_types.specs.Weights.{has_equal_weights}
 use Rattle.crush_map.specs.declared.fault.FaultCode.{FaultCode}
 use Rattle.crush_map.specs.declared.fault.FaultCode.TheVariants.{M1, M2, M3, M4, M5, M6, M7, M8, M9, M10, M12, M15}
 use Rattle.crush_map.specs.declared.fault.Element.{Element}
@@ -19,7 +19,7 @@ use Rattle.crush_map.specs.declared.draft.Rule.{Rule}
 use Rattle.crush_types.specs.declared.ItemId.{ItemId}
 use Rattle.crush_types.specs.declared.Weight.{Weight}
 use Rattle.crush_types.specs.declared.Kind.{Kind}
-use Rattle.crush_map.specs.Faults.{Known, Ids, first_of, or_else, ◌when◌, at_place, first_in, nothing, no_ids, has_number, has_id, has_name, with_id, is_name, is_bucket_id, items_fault, contents_fault, type_fault, device_fault, bucket_fault, rule_fault, choose_fault, step_fault, steps_fault, rule_head_checks, end_fault, with_type, with_device, with_bucket, with_rule, known_types, known_devices, known_buckets, known_rules, element_fault, first_fault}
+use Rattle.crush_map.specs.Faults.{Known, Ids, first_of, or_else, ◌when◌, at_place, first_in, nothing, no_ids, has_number, has_id, has_name, with_id, is_name, is_bucket_id, is_too_heavy, items_fault, contents_fault, type_fault, device_fault, bucket_fault, rule_fault, choose_fault, step_fault, steps_fault, rule_head_checks, end_fault, with_type, with_device, with_bucket, with_rule, known_types, known_devices, known_buckets, known_rules, element_fault, first_fault}
 use Rattle.crush_types.specs.Kinds.{is_uniform}
 use Rattle.crush_grammar.specs.Syntax.{Text, Early, Late, early_declares, late_declares, text_declares}
 use Rattle.crush_grammar.specs.Syntax.Early.{ATunable, ADevice, AType}
@@ -79,7 +79,7 @@ items_as_well r known before (item ∷ items) =
 contents_as_well : (r : Rule) (known : Known) (alg : Kind) (items : List (ItemId × Weight)) → contents_fault (with_rule known r) alg items ≡ contents_fault known alg items
 unfolding contents_fault
 contents_as_well r known alg items =
-    ap (λ o. first_of (o ∷ (M8 when (is_uniform alg && not (has_equal_weights items))) ∷ (M7 when nat_lt TOTAL_WEIGHT_LIMIT (total_weight items)) ∷ [])) (items_as_well r known no_ids items)
+    ap (λ o. first_of (o ∷ (M8 when (is_uniform alg && not (has_equal_weights items))) ∷ (M7 when is_too_heavy alg items) ∷ [])) (items_as_well r known no_ids items)
 
 -- a bucket is judged without the rules
 bucket_as_well : (r : Rule) (known : Known) (b : Bucket) → bucket_fault (with_rule known r) b ≡ bucket_fault known b

@@ -1,21 +1,22 @@
 -- What is known of a bucket and of a rule that have no fault.
-use Rattle.std.proofs.Common.{◌≡◌, ◌∙◌, ◌≤◌, false, Option, Some, None, List, [], ◌∷◌, ℕ, refl, map, length, nat_lt, arith}
+use Rattle.std.proofs.Common.{◌≡◌, ◌∙◌, ◌≤◌, ◌&&◌, false, Option, Some, None, List, [], ◌∷◌, ℕ, refl, map, length, nat_lt, arith}
 use Rattle.std.proofs.lemmas.Bool.Decides.{nat_tests}
-use Rattle.std.specs.List.{filter_map, cons_option}
+use Rattle.std.specs.List.{filter_map, cons_option, list_any}
 use Rattle.crush_map.specs.declared.limits.TheConstants.{ITEM_LIMIT, NUMBER_LIMIT, TOTAL_WEIGHT_LIMIT}
 use Rattle.crush_map.specs.declared.fault.FaultCode.{FaultCode}
 use Rattle.crush_map.specs.declared.fault.FaultCode.TheVariants.{M1, M7, M12}
 use Rattle.crush_map.specs.declared.draft.Device.{Device}
 use Rattle.crush_map.specs.declared.draft.Bucket.{Bucket}
 use Rattle.crush_map.specs.declared.draft.Step.{Step}
+use Rattle.crush_types.specs.Kinds.{is_straw2}
 use Rattle.crush_types.specs.Weights.{total_weight}
-use Rattle.crush_map.specs.Faults.{Known, first_of, ◌when◌, device_fault, device_checks, bucket_fault, bucket_checks, contents_fault, items_fault, no_ids, rule_fault, rule_head_fault, rule_head_checks, steps_fault}
+use Rattle.crush_map.specs.Faults.{Known, first_of, ◌when◌, device_fault, device_checks, bucket_fault, bucket_checks, contents_fault, items_fault, is_heavy, is_too_heavy, no_ids, rule_fault, rule_head_fault, rule_head_checks, steps_fault}
 use Rattle.crush_grammar.specs.declared.declaration.Setting.TheVariants as settings
 use Rattle.crush_grammar.specs.declared.declaration.DeclaredRule.{DeclaredRule}
 use Rattle.crush_grammar.specs.declared.declaration.DeclaredStep.{DeclaredStep}
 use Rattle.crush_grammar.specs.declared.declaration.DeclaredStep.TheVariants as steps
 use Rattle.crush_text.specs.Judging.{Declared, at_line, declared_step_fault, declared_rule_fault, kept_step_fault, step_of, rule_of}
-use Rattle.crush_text.proofs.Checks.{first_none, second_none, both_none, passes, fails, last_of}
+use Rattle.crush_text.proofs.Checks.{first_none, second_none, both_none, passes, fails, left_false, last_of}
 
 at_most : (n m : ℕ) → nat_lt m n ≡ false → n ≤ m
 at_most n m h = grind (arith, nat_tests)
@@ -32,7 +33,7 @@ is_few known b h = at_most _ _ (fails M1 _ (passes (bucket_checks known b) 7 (M1
 light_by : (known : Known) (b : Bucket) → contents_fault known b.alg b.items ≡ None → total_weight b.items ≤ TOTAL_WEIGHT_LIMIT
 unfolding contents_fault
 light_by known b h =
-    at_most _ _ (fails M7 _ (first_none (M7 when nat_lt TOTAL_WEIGHT_LIMIT (total_weight b.items)) None (second_none _ _ (second_none (items_fault known no_ids b.items) _ h))))
+    at_most _ _ (left_false _ (is_straw2 b.alg && list_any is_heavy b.items) (fails M7 _ (first_none (M7 when is_too_heavy b.alg b.items) None (second_none _ _ (second_none (items_fault known no_ids b.items) _ h)))))
 
 pub is_light : (known : Known) (b : Bucket) → bucket_fault known b ≡ None → total_weight b.items ≤ TOTAL_WEIGHT_LIMIT
 unfolding bucket_fault

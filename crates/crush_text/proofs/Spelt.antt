@@ -4,18 +4,19 @@ use Rattle.std.proofs.lemmas.Bool.Decides.{nat_tests}
 use Rattle.std.proofs.lemmas.List.Sums.{sum_by-cons}
 use Rattle.std.specs.List.{flat_map, list_all, AllByRecursion}
 use Rattle.crush_map.specs.Faults.{is_name_byte}
-use Rattle.crush_words.specs.Words.{Word, words_from, starts_name, onto, alone}
+use Rattle.crush_words.specs.Words.{Word, words_from, in_text, starts_name, onto, alone}
 use Rattle.crush_grammar.specs.Sayings.{name_of}
 use Rattle.crush_writing.specs.Canonical.{line, inner_line}
 
 -- ---- words
 
-abbrev pub word_at : ℕ → List ℕ → Word
-word_at n text = record { line = n; text = text }
+-- a word on line n; `marked` says whether its text asks for straw2
+abbrev pub word_at : Bool → ℕ → List ℕ → Word
+word_at marked n text = record { line = n; text = text; straw2 = marked }
 
 -- bytes that are one word wherever no byte of a name follows them
 abbrev pub IsToken : List ℕ → Type 0
-IsToken t = (n : ℕ) (rest : List ℕ) → starts_name rest ≡ false → words_from false n (t ++ rest) ≡ word_at n t ∷ words_from false n rest
+IsToken t = (n : ℕ) (rest : List ℕ) → starts_name rest ≡ false → words_from false n (t ++ rest) ≡ word_at false n t ∷ words_from false n rest
 
 pub both : (a b : Bool) → (a && b) ≡ true → (a ≡ true) × (b ≡ true)
 both true true h = (refl, refl)
@@ -56,17 +57,21 @@ name_is_token t v h = named_by t v (nat_lt 0 (length t) && list_all is_name_byte
 
 -- ---- texts
 
--- from line n on, the text is these words, whatever follows it on line k
-pub record Reads (n : ℕ) (text : List ℕ) (k : ℕ) (ws : List Word) : Type 0 where
-  pub reads : (rest : List ℕ) → words_from false n (text ++ rest) ≡ ws ++ words_from false k rest
+-- the words of bytes from line n on, in a text that asks for straw2 or doesn't
+abbrev pub words_in : Bool → ℕ → List ℕ → List Word
+words_in marked n bytes = in_text marked (words_from false n bytes)
 
-pub joined : {n k l : ℕ} {a b : List ℕ} {us vs : List Word} → Reads n a k us → Reads k b l vs → Reads n (a ++ b) l (us ++ vs)
-joined {n = n} {l = l} {a = a} {b = b} {us = us} {vs = vs} g h = record {
-  reads = λ rest. ap (words_from false n) (append_assoc a b rest) ∙ (g.reads (b ++ rest) ∙ (ap (λ zs. us ++ zs) (h.reads rest) ∙ sym (append_assoc us vs (words_from false l rest))));
+-- from line n on, the text is these words, whatever follows it on line k
+pub record Reads (marked : Bool) (n : ℕ) (text : List ℕ) (k : ℕ) (ws : List Word) : Type 0 where
+  pub reads : (rest : List ℕ) → words_in marked n (text ++ rest) ≡ ws ++ words_in marked k rest
+
+pub joined : {marked : Bool} {n k l : ℕ} {a b : List ℕ} {us vs : List Word} → Reads marked n a k us → Reads marked k b l vs → Reads marked n (a ++ b) l (us ++ vs)
+joined {marked = marked} {n = n} {l = l} {a = a} {b = b} {us = us} {vs = vs} g h = record {
+  reads = λ rest. ap (words_in marked n) (append_assoc a b rest) ∙ (g.reads (b ++ rest) ∙ (ap (λ zs. us ++ zs) (h.reads rest) ∙ sym (append_assoc us vs (words_in marked l rest))));
 }
 
-pub ends : {n k : ℕ} {a : List ℕ} {us : List Word} (l : ℕ) (vs : List Word) → Reads n a k us → k ≡ l → us ≡ vs → Reads n a l vs
-ends {us = us} l vs g e f = record { reads = λ rest. g.reads rest ∙ (ap (λ i. us ++ words_from false i rest) e ∙ ap (λ zs. zs ++ words_from false l rest) f) }
+pub ends : {marked : Bool} {n k : ℕ} {a : List ℕ} {us : List Word} (l : ℕ) (vs : List Word) → Reads marked n a k us → k ≡ l → us ≡ vs → Reads marked n a l vs
+ends {marked = marked} {us = us} l vs g e f = record { reads = λ rest. g.reads rest ∙ (ap (λ i. us ++ words_in marked i rest) e ∙ ap (λ zs. zs ++ words_in marked l rest) f) }
 
 -- ---- lines
 
@@ -77,32 +82,40 @@ no_name : (ts : List (List ℕ)) (rest : List ℕ) → starts_name (behind_space
 no_name [] rest = refl
 no_name (t ∷ ts) rest = refl
 
-others_read : (ts : List (List ℕ)) → AllByRecursion IsToken ts → (n : ℕ) (rest : List ℕ) → words_from false n (behind_spaces ts ++ 10 ∷ rest) ≡ map (word_at n) ts ++ words_from false (n + 1) rest
+others_read : (ts : List (List ℕ)) → AllByRecursion IsToken ts → (n : ℕ) (rest : List ℕ) → words_from false n (behind_spaces ts ++ 10 ∷ rest) ≡ map (word_at false n) ts ++ words_from false (n + 1) rest
 others_read [] all n rest = refl
 others_read (t ∷ ts) all n rest =
     ap (words_from false n) (append_assoc t (behind_spaces ts) (10 ∷ rest))
-    ∙ (all.0 n (behind_spaces ts ++ 10 ∷ rest) (no_name ts rest) ∙ ap (λ ws. word_at n t ∷ ws) (others_read ts all.1 n rest))
+    ∙ (all.0 n (behind_spaces ts ++ 10 ∷ rest) (no_name ts rest) ∙ ap (λ ws. word_at false n t ∷ ws) (others_read ts all.1 n rest))
 
 tail : (t others rest : List ℕ) → ((t ++ others) ++ 10 ∷ []) ++ rest ≡ t ++ (others ++ 10 ∷ rest)
 tail t others rest = simp append_assoc
 
+line_read : (n : ℕ) (ts : List (List ℕ)) → 0 < length ts → AllByRecursion IsToken ts → (rest : List ℕ) → words_from false n (line ts ++ rest) ≡ map (word_at false n) ts ++ words_from false (n + 1) rest
+line_read n [] some all rest = absurd (omega arith)
+line_read n (t ∷ ts) some all rest =
+    ap (words_from false n) (tail t (behind_spaces ts) rest)
+    ∙ (all.0 n (behind_spaces ts ++ 10 ∷ rest) (no_name ts rest) ∙ ap (λ ws. word_at false n t ∷ ws) (others_read ts all.1 n rest))
+
+all_marked : (marked : Bool) (n : ℕ) (ts : List (List ℕ)) (ws : List Word) → in_text marked (map (word_at false n) ts ++ ws) ≡ map (word_at marked n) ts ++ in_text marked ws
+all_marked marked n [] ws = refl
+all_marked marked n (t ∷ ts) ws = ap (λ us. word_at marked n t ∷ us) (all_marked marked n ts ws)
+
 -- a line of words
-pub line_reads : (n : ℕ) (ts : List (List ℕ)) → 0 < length ts → AllByRecursion IsToken ts → Reads n (line ts) (n + 1) (map (word_at n) ts)
-line_reads n [] some all = absurd (omega arith)
-line_reads n (t ∷ ts) some all = record {
-  reads = λ rest. ap (words_from false n) (tail t (behind_spaces ts) rest)
-      ∙ (all.0 n (behind_spaces ts ++ 10 ∷ rest) (no_name ts rest) ∙ ap (λ ws. word_at n t ∷ ws) (others_read ts all.1 n rest));
+pub line_reads : (marked : Bool) (n : ℕ) (ts : List (List ℕ)) → 0 < length ts → AllByRecursion IsToken ts → Reads marked n (line ts) (n + 1) (map (word_at marked n) ts)
+line_reads marked n ts some all = record {
+  reads = λ rest. ap (in_text marked) (line_read n ts some all rest) ∙ all_marked marked n ts (words_from false (n + 1) rest);
 }
 
 -- a line of words in braces
-pub inner_line_reads : (n : ℕ) (ts : List (List ℕ)) → 0 < length ts → AllByRecursion IsToken ts → Reads n (inner_line ts) (n + 1) (map (word_at n) ts)
-inner_line_reads n ts some all = let plain = line_reads n ts some all in record { reads = plain.reads }
+pub inner_line_reads : (marked : Bool) (n : ℕ) (ts : List (List ℕ)) → 0 < length ts → AllByRecursion IsToken ts → Reads marked n (inner_line ts) (n + 1) (map (word_at marked n) ts)
+inner_line_reads marked n ts some all = let plain = line_reads marked n ts some all in record { reads = plain.reads }
 
 -- ---- texts that trees spell
 
 -- from line n on, the text is the words of a tree that declares this, whatever follows it on line k
-abbrev pub Spells : {T D : Type 0} → (T → List Word) → (T → D) → ℕ → List ℕ → ℕ → D → Type 0
-Spells {T = T} words declares n text k d = (t : T) × (declares t ≡ d) × Reads n text k (words t)
+abbrev pub Spells : {T D : Type 0} → (T → List Word) → (T → D) → Bool → ℕ → List ℕ → ℕ → D → Type 0
+Spells {T = T} words declares marked n text k d = (t : T) × (declares t ≡ d) × Reads marked n text k (words t)
 
 -- what each of a list declares, on the lines that follow one another
 abbrev pub numbered : {X D : Type 0} → (ℕ → X → D) → (X → ℕ) → ℕ → List X → List D
@@ -113,13 +126,13 @@ pub numbered-map : {X D : Type 0} (f : X → D) (lines : X → ℕ) (n : ℕ) (x
 numbered-map f lines n [] = refl
 numbered-map f lines n (x ∷ xs) = ap (λ ds. f x ∷ ds) (numbered-map f lines (n + lines x) xs)
 
-pub all_spell : {X T D : Type 0} (words : T → List Word) (declares : T → D) (text : X → List ℕ) (declaration : ℕ → X → D) (lines : X → ℕ) (xs : List X) →
-    AllByRecursion (λ x. (n : ℕ) → Spells words declares n (text x) (n + lines x) (declaration n x)) xs →
-    (n : ℕ) → Spells (flat_map words) (map declares) n (flat_map text xs) (n + sum_by lines xs) (numbered declaration lines n xs)
-all_spell words declares text declaration lines [] all n = ([], refl, record { reads = λ rest. let none : n + 0 ≡ n = omega arith in ap (λ i. words_from false i rest) (sym none) })
-all_spell words declares text declaration lines (x ∷ xs) all n =
+pub all_spell : {X T D : Type 0} (marked : Bool) (words : T → List Word) (declares : T → D) (text : X → List ℕ) (declaration : ℕ → X → D) (lines : X → ℕ) (xs : List X) →
+    AllByRecursion (λ x. (n : ℕ) → Spells words declares marked n (text x) (n + lines x) (declaration n x)) xs →
+    (n : ℕ) → Spells (flat_map words) (map declares) marked n (flat_map text xs) (n + sum_by lines xs) (numbered declaration lines n xs)
+all_spell marked words declares text declaration lines [] all n = ([], refl, record { reads = λ rest. let none : n + 0 ≡ n = omega arith in ap (λ i. words_in marked i rest) (sym none) })
+all_spell marked words declares text declaration lines (x ∷ xs) all n =
     let (t, d, r) = all.0 n in
-    let (ts, ds, rs) = all_spell words declares text declaration lines xs all.1 (n + lines x) in (
+    let (ts, ds, rs) = all_spell marked words declares text declaration lines xs all.1 (n + lines x) in (
       t ∷ ts,
       cc,
       ends (n + sum_by lines (x ∷ xs)) (words t ++ flat_map words ts) (joined r rs) (let more = sum_by-cons lines x xs in omega arith) refl,

@@ -17,7 +17,8 @@ use Rattle.crush_map.specs.declared.draft.Tunables.{Tunables}
 use Rattle.crush_types.specs.declared.ItemId.{ItemId}
 use Rattle.crush_types.specs.declared.Weight.{Weight}
 use Rattle.crush_types.specs.declared.Kind.{Kind}
-use Rattle.crush_types.specs.declared.Kind.TheVariants.{Uniform, List as ListKind, Tree}
+use Rattle.crush_types.specs.declared.Kind.TheVariants.{Uniform, List as ListKind, Tree, Straw2}
+use Rattle.crush_types.specs.Kinds.{is_straw2, kind_name}
 use Rattle.crush_map.specs.Faults.{is_name, is_name_byte, is_reserved}
 use Rattle.crush_map.specs.Map.{Map}
 use Rattle.crush_map.specs.WeightText.{text_of, weight_of}
@@ -37,7 +38,7 @@ use Rattle.crush_grammar.specs.declared.declaration.DeclaredStep.{DeclaredStep}
 use Rattle.crush_grammar.specs.declared.declaration.DeclaredStep.TheVariants as steps
 use Rattle.crush_grammar.specs.declared.declaration.Declaration.{Declaration}
 use Rattle.crush_grammar.specs.declared.declaration.Declaration.TheVariants as declarations
-use Rattle.crush_writing.specs.Canonical.{type_name, item_name, tunable_line, tunable_lines, device_line, type_line, alg_text, item_line, bucket_lines, choose_text, firstn_text, step_line, erasure_text, rule_lines, inner_line}
+use Rattle.crush_writing.specs.Canonical.{type_name, item_name, tunable_line, tunable_lines, device_line, type_line, item_line, bucket_lines, choose_text, firstn_text, step_line, erasure_text, rule_lines, inner_line}
 use Rattle.crush_text.proofs.Spelt.{word_at, IsToken, both, keyword, name_is_token, Reads, joined, ends, line_reads, inner_line_reads, Spells, numbered, numbered-map, all_spell}
 use Rattle.crush_text.proofs.Numerals.{IsWithin, number_comes_back, integer_comes_back, decimal_is_token, signed_is_token}
 
@@ -64,11 +65,11 @@ opening n rest free = refl
 closing : IsToken (codes "}")
 closing n rest free = refl
 
-abbrev key : ℕ → (t : List ℕ) → Keyword t
-key n t = record { word = word_at n t; is = refl }
+abbrev key : Bool → ℕ → (t : List ℕ) → Keyword t
+key marked n t = record { word = word_at marked n t; is = refl }
 
-abbrev said : {V : Type 0} (read : List ℕ → Option V) (n : ℕ) (t : List ℕ) (v : V) → read t ≡ Some v → Saying read
-said read n t v e = record { word = word_at n t; value = v; is = e }
+abbrev said : {V : Type 0} (marked : Bool) (read : List ℕ → Option V) (n : ℕ) (t : List ℕ) (v : V) → read t ≡ Some v → Saying read
+said marked read n t v e = record { word = word_at marked n t; value = v; is = e }
 
 -- ---- tunables
 
@@ -91,13 +92,13 @@ tunable_declared n x = declarations.Tunable (record { line = n; name = x.0; valu
 abbrev line_of_tunable : TunableName × ℕ → List ℕ
 line_of_tunable x = tunable_line (tunable_text x.0) x.1
 
-tunable_spells : (x : TunableName × ℕ) → tunable_of (tunable_text x.0) ≡ Some x.0 → IsToken (tunable_text x.0) → x.1 < 10 ^ 10 → (n : ℕ) →
-    Spells early_words early_declares n (line_of_tunable x) (n + 1) (tunable_declared n x)
+tunable_spells : (marked : Bool) (x : TunableName × ℕ) → tunable_of (tunable_text x.0) ≡ Some x.0 → IsToken (tunable_text x.0) → x.1 < 10 ^ 10 → (n : ℕ) →
+    Spells early_words early_declares marked n (line_of_tunable x) (n + 1) (tunable_declared n x)
 unfolding tunable_line
-tunable_spells x e token small n = (
-  ATunable (record { tunable = key n (codes "tunable"); name = said tunable_of n (tunable_text x.0) x.0 e; value = said number_of n (decimal x.1) x.1 (number_comes_back x.1 small) }),
+tunable_spells marked x e token small n = (
+  ATunable (record { tunable = key marked n (codes "tunable"); name = said marked tunable_of n (tunable_text x.0) x.0 e; value = said marked number_of n (decimal x.1) x.1 (number_comes_back x.1 small) }),
   refl,
-  line_reads n (codes "tunable" ∷ tunable_text x.0 ∷ decimal x.1 ∷ []) (omega arith) (keyword (codes "tunable") refl, (token, (decimal_is_token x.1 small, tt))),
+  line_reads marked n (codes "tunable" ∷ tunable_text x.0 ∷ decimal x.1 ∷ []) (omega arith) (keyword (codes "tunable") refl, (token, (decimal_is_token x.1 small, tt))),
 )
 
 right : (a b c d e f : List ℕ) → a ++ (b ++ (c ++ (d ++ (e ++ (f ++ []))))) ≡ a ++ b ++ c ++ d ++ e ++ f
@@ -109,22 +110,22 @@ all_lines t = right
     (tunable_line (codes "choose_local_tries") 0) (tunable_line (codes "choose_local_fallback_tries") 0) (tunable_line (codes "choose_total_tries") t.total_tries)
     (tunable_line (codes "chooseleaf_descend_once") t.descend_once) (tunable_line (codes "chooseleaf_vary_r") t.vary_r) (tunable_line (codes "chooseleaf_stable") t.stable)
 
-pub tunables_spell : (t : Tunables) → t.total_tries < 10 ^ 10 → t.descend_once < 10 ^ 10 → t.vary_r < 10 ^ 10 → t.stable < 10 ^ 10 → (n : ℕ) →
-    Spells (flat_map early_words) (map early_declares) n (tunable_lines t) (n + sum_by (λ x. 1) (tunables_of t)) (numbered tunable_declared (λ x. 1) n (tunables_of t))
+pub tunables_spell : (marked : Bool) (t : Tunables) → t.total_tries < 10 ^ 10 → t.descend_once < 10 ^ 10 → t.vary_r < 10 ^ 10 → t.stable < 10 ^ 10 → (n : ℕ) →
+    Spells (flat_map early_words) (map early_declares) marked n (tunable_lines t) (n + sum_by (λ x. 1) (tunables_of t)) (numbered tunable_declared (λ x. 1) n (tunables_of t))
 unfolding tunable_of
-tunables_spell t a b c d n =
-    rw (← all_lines t) (all_spell early_words early_declares line_of_tunable tunable_declared (λ x. 1) (tunables_of t) (
-      tunable_spells (LocalTries, 0) refl (keyword (codes "choose_local_tries") refl) (omega arith),
+tunables_spell marked t a b c d n =
+    rw (← all_lines t) (all_spell marked early_words early_declares line_of_tunable tunable_declared (λ x. 1) (tunables_of t) (
+      tunable_spells marked (LocalTries, 0) refl (keyword (codes "choose_local_tries") refl) (omega arith),
       (
-        tunable_spells (LocalFallbackTries, 0) refl (keyword (codes "choose_local_fallback_tries") refl) (omega arith),
+        tunable_spells marked (LocalFallbackTries, 0) refl (keyword (codes "choose_local_fallback_tries") refl) (omega arith),
         (
-          tunable_spells (TotalTries, t.total_tries) refl (keyword (codes "choose_total_tries") refl) a,
+          tunable_spells marked (TotalTries, t.total_tries) refl (keyword (codes "choose_total_tries") refl) a,
           (
-            tunable_spells (DescendOnce, t.descend_once) refl (keyword (codes "chooseleaf_descend_once") refl) b,
+            tunable_spells marked (DescendOnce, t.descend_once) refl (keyword (codes "chooseleaf_descend_once") refl) b,
             (
-              tunable_spells (VaryR, t.vary_r) refl (keyword (codes "chooseleaf_vary_r") refl) c,
+              tunable_spells marked (VaryR, t.vary_r) refl (keyword (codes "chooseleaf_vary_r") refl) c,
               (
-                tunable_spells (Stable, t.stable) refl (keyword (codes "chooseleaf_stable") refl) d,
+                tunable_spells marked (Stable, t.stable) refl (keyword (codes "chooseleaf_stable") refl) d,
                 tt,
               ),
             ),
@@ -138,23 +139,23 @@ tunables_spell t a b c d n =
 abbrev pub device_declared : ℕ → Device → Declaration
 device_declared n d = declarations.Device (record { line = n; id = d.id; name = d.name })
 
-pub device_spells : (d : Device) → d.id ≤ NUMBER_LIMIT → is_name d.name ≡ true → (n : ℕ) → Spells early_words early_declares n (device_line d) (n + 1) (device_declared n d)
+pub device_spells : (marked : Bool) (d : Device) → d.id ≤ NUMBER_LIMIT → is_name d.name ≡ true → (n : ℕ) → Spells early_words early_declares marked n (device_line d) (n + 1) (device_declared n d)
 unfolding device_line
-device_spells d small form n = (
-  ADevice (record { device = key n (codes "device"); id = said number_of n (decimal d.id) d.id (number_comes_back d.id (omega arith)); name = said name_of n d.name d.name (name_says d.name form); class = None }),
+device_spells marked d small form n = (
+  ADevice (record { device = key marked n (codes "device"); id = said marked number_of n (decimal d.id) d.id (number_comes_back d.id (omega arith)); name = said marked name_of n d.name d.name (name_says d.name form); class = None }),
   refl,
-  line_reads n (codes "device" ∷ decimal d.id ∷ d.name ∷ []) (omega arith) (keyword (codes "device") refl, (decimal_is_token d.id (omega arith), (name_token d.name form, tt))),
+  line_reads marked n (codes "device" ∷ decimal d.id ∷ d.name ∷ []) (omega arith) (keyword (codes "device") refl, (decimal_is_token d.id (omega arith), (name_token d.name form, tt))),
 )
 
 abbrev pub type_declared : ℕ → TypeName → Declaration
 type_declared n t = declarations.TypeName (record { line = n; number = t.number; name = t.name })
 
-pub type_spells : (t : TypeName) → t.number ≤ NUMBER_LIMIT → is_name t.name ≡ true → (n : ℕ) → Spells early_words early_declares n (type_line t) (n + 1) (type_declared n t)
+pub type_spells : (marked : Bool) (t : TypeName) → t.number ≤ NUMBER_LIMIT → is_name t.name ≡ true → (n : ℕ) → Spells early_words early_declares marked n (type_line t) (n + 1) (type_declared n t)
 unfolding type_line
-type_spells t small form n = (
-  AType (record { type = key n (codes "type"); number = said number_of n (decimal t.number) t.number (number_comes_back t.number (omega arith)); name = said name_of n t.name t.name (name_says t.name form) }),
+type_spells marked t small form n = (
+  AType (record { type = key marked n (codes "type"); number = said marked number_of n (decimal t.number) t.number (number_comes_back t.number (omega arith)); name = said marked name_of n t.name t.name (name_says t.name form) }),
   refl,
-  line_reads n (codes "type" ∷ decimal t.number ∷ t.name ∷ []) (omega arith) (keyword (codes "type") refl, (decimal_is_token t.number (omega arith), (name_token t.name form, tt))),
+  line_reads marked n (codes "type" ∷ decimal t.number ∷ t.name ∷ []) (omega arith) (keyword (codes "type") refl, (decimal_is_token t.number (omega arith), (name_token t.name form, tt))),
 )
 
 -- ---- buckets
@@ -168,30 +169,37 @@ pub record HasForm (m : Map) (x : ItemId × Weight) : Type 0 where
   pub word : is_name (text_of x.1) ≡ true
   pub back : weight_of (text_of x.1) ≡ Some x.1
 
-pub item_spells : (m : Map) (x : ItemId × Weight) → HasForm m x → (n : ℕ) → Spells item_words item_declares n (item_line m x) (n + 1) (item_declared m x)
+pub item_spells : (marked : Bool) (m : Map) (x : ItemId × Weight) → HasForm m x → (n : ℕ) → Spells item_words item_declares marked n (item_line m x) (n + 1) (item_declared m x)
 unfolding item_line
-item_spells m x form n = (
+item_spells marked m x form n = (
   record {
-    item = key n (codes "item");
-    name = said name_of n (item_name m x.0.0) (item_name m x.0.0) (name_says (item_name m x.0.0) form.name);
-    weight = Some (record { key = key n (codes "weight"); value = said weight_of n (text_of x.1) x.1 form.back });
+    item = key marked n (codes "item");
+    name = said marked name_of n (item_name m x.0.0) (item_name m x.0.0) (name_says (item_name m x.0.0) form.name);
+    weight = Some (record { key = key marked n (codes "weight"); value = said marked weight_of n (text_of x.1) x.1 form.back });
     pos = None;
   },
   refl,
-  inner_line_reads n (codes "item" ∷ item_name m x.0.0 ∷ codes "weight" ∷ text_of x.1 ∷ []) (omega arith)
+  inner_line_reads marked n (codes "item" ∷ item_name m x.0.0 ∷ codes "weight" ∷ text_of x.1 ∷ []) (omega arith)
       (keyword (codes "item") refl, (name_token (item_name m x.0.0) form.name, (keyword (codes "weight") refl, (name_token (text_of x.1) form.word, tt)))),
 )
 
-alg_says : (a : Kind) → alg_of (alg_text a) ≡ Some a
+-- a word that is the name of a kind says that kind, if its text asks for straw2 where it is straw2
+alg_says : (marked : Bool) (n : ℕ) (a : Kind) → (is_straw2 a ≡ true → marked ≡ true) → alg_of (word_at marked n (kind_name a)) ≡ Some a
 unfolding alg_of
-alg_says Uniform = refl
-alg_says ListKind = refl
-alg_says Tree = refl
+alg_says true n Uniform h = refl
+alg_says true n ListKind h = refl
+alg_says true n Tree h = refl
+alg_says true n Straw2 h = refl
+alg_says false n Uniform h = refl
+alg_says false n ListKind h = refl
+alg_says false n Tree h = refl
+alg_says false n Straw2 h = let none : false ≡ true = h refl in cc
 
-alg_token : (a : Kind) → IsToken (alg_text a)
+alg_token : (a : Kind) → IsToken (kind_name a)
 alg_token Uniform = keyword (codes "uniform") refl
 alg_token ListKind = keyword (codes "list") refl
 alg_token Tree = keyword (codes "tree") refl
+alg_token Straw2 = keyword (codes "straw2") refl
 
 zero_says : hash_of (codes "0") ≡ Some 0
 unfolding hash_of
@@ -220,38 +228,38 @@ pub all_mapped : {X : Type 0} (P Q : X → Type 0) (xs : List X) → ((x : X) �
 all_mapped P Q [] h all = tt
 all_mapped P Q (x ∷ xs) h all = (h x all.0, all_mapped P Q xs h all.1)
 
-pub bucket_spells : (m : Map) (b : Bucket) → IsWritten m b → (n : ℕ) → Spells late_words late_declares n (bucket_lines m b) (n + bucket_height b) (bucket_declared m n b)
+pub bucket_spells : (marked : Bool) (m : Map) (b : Bucket) → IsWritten m b → (is_straw2 b.alg ≡ true → marked ≡ true) → (n : ℕ) → Spells late_words late_declares marked n (bucket_lines m b) (n + bucket_height b) (bucket_declared m n b)
 unfolding bucket_lines
-bucket_spells m b form n =
+bucket_spells marked m b form mark n =
     let kind = type_name m.types b.kind_of in
-    let (items, ds, rs) = all_spell item_words item_declares (item_line m) (λ k x. item_declared m x) (λ x. 1) b.items
-    (all_mapped (HasForm m) (λ x. (k : ℕ) → Spells item_words item_declares k (item_line m x) (k + 1) (item_declared m x)) b.items (item_spells m) form.items) (n + 1 + 1 + 1 + 1) in
+    let (items, ds, rs) = all_spell marked item_words item_declares (item_line m) (λ k x. item_declared m x) (λ x. 1) b.items
+    (all_mapped (HasForm m) (λ x. (k : ℕ) → Spells item_words item_declares marked k (item_line m x) (k + 1) (item_declared m x)) b.items (item_spells marked m) form.items) (n + 1 + 1 + 1 + 1) in
     let last = n + 1 + 1 + 1 + 1 + sum_by (λ x. 1) b.items in
     let tree : syntax.Bucket = record {
-      type_name = said type_of n kind kind (type_says kind form.type_form form.type_free);
-      name = said name_of n b.name b.name (name_says b.name form.name);
-      opening = key n (codes "{");
+      type_name = said marked type_of n kind kind (type_says kind form.type_form form.type_free);
+      name = said marked name_of n b.name b.name (name_says b.name form.name);
+      opening = key marked n (codes "{");
       before = [];
-      id = key (n + 1) (codes "id");
-      number = said integer_of (n + 1) (signed_decimal b.id.0) b.id.0 (integer_comes_back ID_COUNT b.id.0 form.id (omega arith));
+      id = key marked (n + 1) (codes "id");
+      number = said marked integer_of (n + 1) (signed_decimal b.id.0) b.id.0 (integer_comes_back ID_COUNT b.id.0 form.id (omega arith));
       after = [];
-      alg = key (n + 1 + 1) (codes "alg");
-      algorithm = said alg_of (n + 1 + 1) (alg_text b.alg) b.alg (alg_says b.alg);
-      hashes = record { key = key (n + 1 + 1 + 1) (codes "hash"); value = said hash_of (n + 1 + 1 + 1) (codes "0") 0 zero_says } ∷ [];
+      alg = key marked (n + 1 + 1) (codes "alg");
+      algorithm = record { word = word_at marked (n + 1 + 1) (kind_name b.alg); value = b.alg; is = alg_says marked (n + 1 + 1) b.alg mark };
+      hashes = record { key = key marked (n + 1 + 1 + 1) (codes "hash"); value = said marked hash_of (n + 1 + 1 + 1) (codes "0") 0 zero_says } ∷ [];
       items = items;
-      closing = key last (codes "}");
+      closing = key marked last (codes "}");
     } in (
       ABucket tree,
       ap (λ is. declarations.Bucket (record { head = record { line = n; type_name = kind; name = b.name }; id = b.id.0; alg = b.alg; items = is }))
           (ds ∙ numbered-map (item_declared m) (λ x. 1) (n + 1 + 1 + 1 + 1) b.items),
       ends (n + bucket_height b) (late_words (ABucket tree))
           (joined (joined (joined (joined (joined
-          (line_reads n (kind ∷ b.name ∷ codes "{" ∷ []) (omega arith) (name_token kind form.type_form, (name_token b.name form.name, (opening, tt))))
-          (inner_line_reads (n + 1) (codes "id" ∷ signed_decimal b.id.0 ∷ []) (omega arith) (keyword (codes "id") refl, (signed_is_token ID_COUNT b.id.0 form.id (omega arith), tt))))
-          (inner_line_reads (n + 1 + 1) (codes "alg" ∷ alg_text b.alg ∷ []) (omega arith) (keyword (codes "alg") refl, (alg_token b.alg, tt))))
-          (inner_line_reads (n + 1 + 1 + 1) (codes "hash" ∷ codes "0" ∷ []) (omega arith) (keyword (codes "hash") refl, (keyword (codes "0") refl, tt))))
+          (line_reads marked n (kind ∷ b.name ∷ codes "{" ∷ []) (omega arith) (name_token kind form.type_form, (name_token b.name form.name, (opening, tt))))
+          (inner_line_reads marked (n + 1) (codes "id" ∷ signed_decimal b.id.0 ∷ []) (omega arith) (keyword (codes "id") refl, (signed_is_token ID_COUNT b.id.0 form.id (omega arith), tt))))
+          (inner_line_reads marked (n + 1 + 1) (codes "alg" ∷ kind_name b.alg ∷ []) (omega arith) (keyword (codes "alg") refl, (alg_token b.alg, tt))))
+          (inner_line_reads marked (n + 1 + 1 + 1) (codes "hash" ∷ codes "0" ∷ []) (omega arith) (keyword (codes "hash") refl, (keyword (codes "0") refl, tt))))
           rs)
-          (line_reads last (codes "}" ∷ []) (omega arith) (closing, tt))) (omega arith) refl,
+          (line_reads marked last (codes "}" ∷ []) (omega arith) (closing, tt))) (omega arith) refl,
     )
 
 -- ---- rules
@@ -278,12 +286,12 @@ StepForm m Emit = Unit {0}
 abbrev of_step : syntax.Step → DeclaredStep
 of_step s = action_declares s.action
 
-set_spells : (text : List ℕ) (s : Setting) (value : ℕ) → setting_of text ≡ Some s → IsToken text → value ≤ TRIES_LIMIT → (n : ℕ) →
-    Spells step_words of_step n (inner_line (codes "step" ∷ text ∷ decimal value ∷ [])) (n + 1) (steps.Set s value)
-set_spells text s value e token small n = (
-  record { step = key n (codes "step"); action = ASet (record { setting = said setting_of n text s e; value = said number_of n (decimal value) value (number_comes_back value (omega arith)) }) },
+set_spells : (marked : Bool) (text : List ℕ) (s : Setting) (value : ℕ) → setting_of text ≡ Some s → IsToken text → value ≤ TRIES_LIMIT → (n : ℕ) →
+    Spells step_words of_step marked n (inner_line (codes "step" ∷ text ∷ decimal value ∷ [])) (n + 1) (steps.Set s value)
+set_spells marked text s value e token small n = (
+  record { step = key marked n (codes "step"); action = ASet (record { setting = said marked setting_of n text s e; value = said marked number_of n (decimal value) value (number_comes_back value (omega arith)) }) },
   refl,
-  inner_line_reads n (codes "step" ∷ text ∷ decimal value ∷ []) (omega arith) (keyword (codes "step") refl, (token, (decimal_is_token value (omega arith), tt))),
+  inner_line_reads marked n (codes "step" ∷ text ∷ decimal value ∷ []) (omega arith) (keyword (codes "step") refl, (token, (decimal_is_token value (omega arith), tt))),
 )
 
 firstn_says : (firstn : Bool) → firstn_of (firstn_text firstn) ≡ Some firstn
@@ -299,59 +307,59 @@ choose_token : (leaf : Bool) → IsToken (choose_text leaf)
 choose_token true = keyword (codes "chooseleaf") refl
 choose_token false = keyword (codes "choose") refl
 
-choose_reads : (leaf firstn : Bool) (z : ℤ) (type : List ℕ) → IsWithin COUNT_LIMIT z → is_name type ≡ true → (n : ℕ) →
-    Reads n (inner_line (codes "step" ∷ choose_text leaf ∷ firstn_text firstn ∷ signed_decimal z ∷ codes "type" ∷ type ∷ [])) (n + 1) (map (word_at n) (codes "step" ∷ choose_text leaf ∷ firstn_text firstn ∷ signed_decimal z ∷ codes "type" ∷ type ∷ []))
-choose_reads leaf firstn z type small form n =
-    inner_line_reads n (codes "step" ∷ choose_text leaf ∷ firstn_text firstn ∷ signed_decimal z ∷ codes "type" ∷ type ∷ []) (omega arith)
+choose_reads : (marked : Bool) (leaf firstn : Bool) (z : ℤ) (type : List ℕ) → IsWithin COUNT_LIMIT z → is_name type ≡ true → (n : ℕ) →
+    Reads marked n (inner_line (codes "step" ∷ choose_text leaf ∷ firstn_text firstn ∷ signed_decimal z ∷ codes "type" ∷ type ∷ [])) (n + 1) (map (word_at marked n) (codes "step" ∷ choose_text leaf ∷ firstn_text firstn ∷ signed_decimal z ∷ codes "type" ∷ type ∷ []))
+choose_reads marked leaf firstn z type small form n =
+    inner_line_reads marked n (codes "step" ∷ choose_text leaf ∷ firstn_text firstn ∷ signed_decimal z ∷ codes "type" ∷ type ∷ []) (omega arith)
     (keyword (codes "step") refl, (choose_token leaf, (firstn_token firstn, (signed_is_token COUNT_LIMIT z small (omega arith), (keyword (codes "type") refl, (name_token type form, tt))))))
 
-choose_spells : (leaf firstn : Bool) (z : ℤ) (type : List ℕ) → IsWithin COUNT_LIMIT z → is_name type ≡ true → (n : ℕ) →
-    Spells step_words of_step n (inner_line (codes "step" ∷ choose_text leaf ∷ firstn_text firstn ∷ signed_decimal z ∷ codes "type" ∷ type ∷ [])) (n + 1) (steps.Choose firstn leaf z type)
-choose_spells true firstn z type small form n = (
+choose_spells : (marked : Bool) (leaf firstn : Bool) (z : ℤ) (type : List ℕ) → IsWithin COUNT_LIMIT z → is_name type ≡ true → (n : ℕ) →
+    Spells step_words of_step marked n (inner_line (codes "step" ∷ choose_text leaf ∷ firstn_text firstn ∷ signed_decimal z ∷ codes "type" ∷ type ∷ [])) (n + 1) (steps.Choose firstn leaf z type)
+choose_spells marked true firstn z type small form n = (
   record {
-    step = key n (codes "step");
+    step = key marked n (codes "step");
     action = AChooseLeaf (record {
-      choose = key n (codes "chooseleaf");
-      firstn = said firstn_of n (firstn_text firstn) firstn (firstn_says firstn);
-      number = said integer_of n (signed_decimal z) z (integer_comes_back COUNT_LIMIT z small (omega arith));
-      type = key n (codes "type");
-      type_name = said name_of n type type (name_says type form);
+      choose = key marked n (codes "chooseleaf");
+      firstn = said marked firstn_of n (firstn_text firstn) firstn (firstn_says firstn);
+      number = said marked integer_of n (signed_decimal z) z (integer_comes_back COUNT_LIMIT z small (omega arith));
+      type = key marked n (codes "type");
+      type_name = said marked name_of n type type (name_says type form);
     });
   },
   refl,
-  choose_reads true firstn z type small form n,
+  choose_reads marked true firstn z type small form n,
 )
-choose_spells false firstn z type small form n = (
+choose_spells marked false firstn z type small form n = (
   record {
-    step = key n (codes "step");
+    step = key marked n (codes "step");
     action = AChoose (record {
-      choose = key n (codes "choose");
-      firstn = said firstn_of n (firstn_text firstn) firstn (firstn_says firstn);
-      number = said integer_of n (signed_decimal z) z (integer_comes_back COUNT_LIMIT z small (omega arith));
-      type = key n (codes "type");
-      type_name = said name_of n type type (name_says type form);
+      choose = key marked n (codes "choose");
+      firstn = said marked firstn_of n (firstn_text firstn) firstn (firstn_says firstn);
+      number = said marked integer_of n (signed_decimal z) z (integer_comes_back COUNT_LIMIT z small (omega arith));
+      type = key marked n (codes "type");
+      type_name = said marked name_of n type type (name_says type form);
     });
   },
   refl,
-  choose_reads false firstn z type small form n,
+  choose_reads marked false firstn z type small form n,
 )
 
-pub step_spells : (m : Map) (s : Step) → StepForm m s → (n : ℕ) → Spells step_words of_step n (step_line m s) (n + 1) (step_declared m s)
+pub step_spells : (marked : Bool) (m : Map) (s : Step) → StepForm m s → (n : ℕ) → Spells step_words of_step marked n (step_line m s) (n + 1) (step_declared m s)
 unfolding step_line setting_of
-step_spells m (Take id) form n = (
-  record { step = key n (codes "step"); action = ATake (record { key = key n (codes "take"); value = said name_of n (item_name m id.0) (item_name m id.0) (name_says (item_name m id.0) form) }) },
+step_spells marked m (Take id) form n = (
+  record { step = key marked n (codes "step"); action = ATake (record { key = key marked n (codes "take"); value = said marked name_of n (item_name m id.0) (item_name m id.0) (name_says (item_name m id.0) form) }) },
   refl,
-  inner_line_reads n (codes "step" ∷ codes "take" ∷ item_name m id.0 ∷ []) (omega arith) (keyword (codes "step") refl, (keyword (codes "take") refl, (name_token (item_name m id.0) form, tt))),
+  inner_line_reads marked n (codes "step" ∷ codes "take" ∷ item_name m id.0 ∷ []) (omega arith) (keyword (codes "step") refl, (keyword (codes "take") refl, (name_token (item_name m id.0) form, tt))),
 )
-step_spells m (SetChooseTries tries) form n = set_spells (codes "set_choose_tries") settings.ChooseTries tries refl (keyword (codes "set_choose_tries") refl) form n
-step_spells m (SetLeafTries tries) form n = set_spells (codes "set_chooseleaf_tries") settings.LeafTries tries refl (keyword (codes "set_chooseleaf_tries") refl) form n
-step_spells m (SetVaryR value) form n = set_spells (codes "set_chooseleaf_vary_r") settings.VaryR value refl (keyword (codes "set_chooseleaf_vary_r") refl) form n
-step_spells m (SetStable value) form n = set_spells (codes "set_chooseleaf_stable") settings.Stable value refl (keyword (codes "set_chooseleaf_stable") refl) form n
-step_spells m (Choose firstn leaf z wanted) form n = choose_spells leaf firstn z (type_name m.types wanted) form.0 form.1 n
-step_spells m Emit form n = (
-  record { step = key n (codes "step"); action = AnEmit (key n (codes "emit")) },
+step_spells marked m (SetChooseTries tries) form n = set_spells marked (codes "set_choose_tries") settings.ChooseTries tries refl (keyword (codes "set_choose_tries") refl) form n
+step_spells marked m (SetLeafTries tries) form n = set_spells marked (codes "set_chooseleaf_tries") settings.LeafTries tries refl (keyword (codes "set_chooseleaf_tries") refl) form n
+step_spells marked m (SetVaryR value) form n = set_spells marked (codes "set_chooseleaf_vary_r") settings.VaryR value refl (keyword (codes "set_chooseleaf_vary_r") refl) form n
+step_spells marked m (SetStable value) form n = set_spells marked (codes "set_chooseleaf_stable") settings.Stable value refl (keyword (codes "set_chooseleaf_stable") refl) form n
+step_spells marked m (Choose firstn leaf z wanted) form n = choose_spells marked leaf firstn z (type_name m.types wanted) form.0 form.1 n
+step_spells marked m Emit form n = (
+  record { step = key marked n (codes "step"); action = AnEmit (key marked n (codes "emit")) },
   refl,
-  inner_line_reads n (codes "step" ∷ codes "emit" ∷ []) (omega arith) (keyword (codes "step") refl, (keyword (codes "emit") refl, tt)),
+  inner_line_reads marked n (codes "step" ∷ codes "emit" ∷ []) (omega arith) (keyword (codes "step") refl, (keyword (codes "emit") refl, tt)),
 )
 
 erasure_says : (erasure : Bool) → erasure_of (erasure_text erasure) ≡ Some erasure
@@ -379,28 +387,28 @@ pub record IsWrittenRule (m : Map) (r : Rule) : Type 0 where
   pub steps : AllByRecursion (StepForm m) r.steps
 
 -- a rule whose steps are a first one and others
-steps_spell : (m : Map) (r : Rule) (s : Step) (ss : List Step) → r.id ≤ RULE_ID_LIMIT → is_name r.name ≡ true → StepForm m s → AllByRecursion (StepForm m) ss → (n : ℕ) →
-    Spells late_words late_declares n (rule_lines m (record r { steps = s ∷ ss })) (n + rule_height (record r { steps = s ∷ ss })) (rule_declared m n (record r { steps = s ∷ ss }))
+steps_spell : (marked : Bool) (m : Map) (r : Rule) (s : Step) (ss : List Step) → r.id ≤ RULE_ID_LIMIT → is_name r.name ≡ true → StepForm m s → AllByRecursion (StepForm m) ss → (n : ℕ) →
+    Spells late_words late_declares marked n (rule_lines m (record r { steps = s ∷ ss })) (n + rule_height (record r { steps = s ∷ ss })) (rule_declared m n (record r { steps = s ∷ ss }))
 unfolding rule_lines
-steps_spell m r s ss id name one more n =
+steps_spell marked m r s ss id name one more n =
     let at = n + 1 + 1 + 1 in
-    let (first, d, g) = step_spells m s one at in
-    let (others, ds, gs) = all_spell step_words of_step (step_line m) (λ k x. step_declared m x) (λ x. 1) ss
-    (all_mapped (StepForm m) (λ x. (k : ℕ) → Spells step_words of_step k (step_line m x) (k + 1) (step_declared m x)) ss (step_spells m) more) (at + 1) in
+    let (first, d, g) = step_spells marked m s one at in
+    let (others, ds, gs) = all_spell marked step_words of_step (step_line m) (λ k x. step_declared m x) (λ x. 1) ss
+    (all_mapped (StepForm m) (λ x. (k : ℕ) → Spells step_words of_step marked k (step_line m x) (k + 1) (step_declared m x)) ss (step_spells marked m) more) (at + 1) in
     let last = at + 1 + sum_by (λ x. 1) ss in
     let tree : syntax.Rule = record {
-      rule = key n (codes "rule");
-      name = said name_of n r.name r.name (name_says r.name name);
-      opening = key n (codes "{");
-      id = said rule_id_of (n + 1) (codes "id") 0 id_says;
-      number = said number_of (n + 1) (decimal r.id) r.id (number_comes_back r.id (omega arith));
-      type = key (n + 1 + 1) (codes "type");
-      erasure = said erasure_of (n + 1 + 1) (erasure_text r.erasure) r.erasure (erasure_says r.erasure);
+      rule = key marked n (codes "rule");
+      name = said marked name_of n r.name r.name (name_says r.name name);
+      opening = key marked n (codes "{");
+      id = said marked rule_id_of (n + 1) (codes "id") 0 id_says;
+      number = said marked number_of (n + 1) (decimal r.id) r.id (number_comes_back r.id (omega arith));
+      type = key marked (n + 1 + 1) (codes "type");
+      erasure = said marked erasure_of (n + 1 + 1) (erasure_text r.erasure) r.erasure (erasure_says r.erasure);
       min_size = None;
       max_size = None;
       first = first;
       others = others;
-      closing = key last (codes "}");
+      closing = key marked last (codes "}");
     } in
     let height = sum_by-cons (λ (x : Step). 1) s ss in (
       ARule tree,
@@ -408,19 +416,19 @@ steps_spell m r s ss id name one more n =
           (ap (λ x. x ∷ map of_step others) d ∙ ap (λ xs. step_declared m s ∷ xs) (ds ∙ numbered-map (step_declared m) (λ x. 1) (at + 1) ss)),
       ends (n + rule_height (record r { steps = s ∷ ss })) (late_words (ARule tree))
           (joined (joined (joined (joined
-          (line_reads n (codes "rule" ∷ r.name ∷ codes "{" ∷ []) (omega arith) (keyword (codes "rule") refl, (name_token r.name name, (opening, tt))))
-          (inner_line_reads (n + 1) (codes "id" ∷ decimal r.id ∷ []) (omega arith) (keyword (codes "id") refl, (decimal_is_token r.id (omega arith), tt))))
-          (inner_line_reads (n + 1 + 1) (codes "type" ∷ erasure_text r.erasure ∷ []) (omega arith) (keyword (codes "type") refl, (erasure_token r.erasure, tt))))
+          (line_reads marked n (codes "rule" ∷ r.name ∷ codes "{" ∷ []) (omega arith) (keyword (codes "rule") refl, (name_token r.name name, (opening, tt))))
+          (inner_line_reads marked (n + 1) (codes "id" ∷ decimal r.id ∷ []) (omega arith) (keyword (codes "id") refl, (decimal_is_token r.id (omega arith), tt))))
+          (inner_line_reads marked (n + 1 + 1) (codes "type" ∷ erasure_text r.erasure ∷ []) (omega arith) (keyword (codes "type") refl, (erasure_token r.erasure, tt))))
           (joined g gs))
-          (line_reads last (codes "}" ∷ []) (omega arith) (closing, tt))) (omega arith)
-          (ap (λ ws. word_at n (codes "rule") ∷ word_at n r.name ∷ word_at n (codes "{") ∷ word_at (n + 1) (codes "id") ∷ word_at (n + 1) (decimal r.id) ∷ word_at (n + 1 + 1) (codes "type") ∷ word_at (n + 1 + 1) (erasure_text r.erasure) ∷ ws)
-          (append_assoc (step_words first) (flat_map step_words others) (word_at last (codes "}") ∷ []))),
+          (line_reads marked last (codes "}" ∷ []) (omega arith) (closing, tt))) (omega arith)
+          (ap (λ ws. word_at marked n (codes "rule") ∷ word_at marked n r.name ∷ word_at marked n (codes "{") ∷ word_at marked (n + 1) (codes "id") ∷ word_at marked (n + 1) (decimal r.id) ∷ word_at marked (n + 1 + 1) (codes "type") ∷ word_at marked (n + 1 + 1) (erasure_text r.erasure) ∷ ws)
+          (append_assoc (step_words first) (flat_map step_words others) (word_at marked last (codes "}") ∷ []))),
     )
 
-by_steps : (m : Map) (r : Rule) (ss : List Step) → 1 ≤ length ss → r.id ≤ RULE_ID_LIMIT → is_name r.name ≡ true → AllByRecursion (StepForm m) ss → (n : ℕ) →
-    Spells late_words late_declares n (rule_lines m (record r { steps = ss })) (n + rule_height (record r { steps = ss })) (rule_declared m n (record r { steps = ss }))
-by_steps m r [] some id name all n = absurd (omega arith)
-by_steps m r (s ∷ ss) some id name all n = steps_spell m r s ss id name all.0 all.1 n
+by_steps : (marked : Bool) (m : Map) (r : Rule) (ss : List Step) → 1 ≤ length ss → r.id ≤ RULE_ID_LIMIT → is_name r.name ≡ true → AllByRecursion (StepForm m) ss → (n : ℕ) →
+    Spells late_words late_declares marked n (rule_lines m (record r { steps = ss })) (n + rule_height (record r { steps = ss })) (rule_declared m n (record r { steps = ss }))
+by_steps marked m r [] some id name all n = absurd (omega arith)
+by_steps marked m r (s ∷ ss) some id name all n = steps_spell marked m r s ss id name all.0 all.1 n
 
-pub rule_spells : (m : Map) (r : Rule) → 1 ≤ length r.steps → IsWrittenRule m r → (n : ℕ) → Spells late_words late_declares n (rule_lines m r) (n + rule_height r) (rule_declared m n r)
-rule_spells m r some form n = by_steps m r r.steps some form.id form.name form.steps n
+pub rule_spells : (marked : Bool) (m : Map) (r : Rule) → 1 ≤ length r.steps → IsWrittenRule m r → (n : ℕ) → Spells late_words late_declares marked n (rule_lines m r) (n + rule_height r) (rule_declared m n r)
+rule_spells marked m r some form n = by_steps marked m r r.steps some form.id form.name form.steps n

@@ -1,4 +1,4 @@
-//! The words of a map text, each with its line.
+//! The words of a map text, each with its line, and whether the text asks for straw2.
 //!
 //! Source: Ceph's CRUSH map manual, which shows the text that `crushtool -d` writes.
 #![tactic(auto)]

@@ -7,7 +7,7 @@ use crate::buckets::next;
 use crate::drafts::{ONE, SOUND, Short, draft, entries};
 use crate::plain;
 use crate::same::{assert_same, assert_same_at};
-use Kind::{List, Tree, Uniform};
+use Kind::{List, Straw2, Tree, Uniform};
 use crush_bucket::{BucketNo, LANES, Scratch, Tables};
 use crush_map::{CrushMap, ItemId, Kind};
 use std::alloc::{AllocError, Global};
@@ -16,7 +16,7 @@ use std::process::Abort;
 type Row = (i32, &'static str, u32, Kind, &'static [(i32, u32)]);
 
 /// How many buckets there are.
-const COUNT: u32 = 11;
+const COUNT: u32 = 12;
 
 /// How many of the buckets are trees that have items; they come first.
 const TREES: u32 = 5;
@@ -27,7 +27,7 @@ const UNIFORMS: [u32; 3] = [8, 9, 10];
 const SHORT: usize = 6;
 
 /// Trees of 1, 2, 3, 5 and 9 items, whose heights are 0, 1, 2, 3 and 4; a list, a uniform bucket
-/// and a tree without items; uniform buckets of 5, 7 and 9 items.
+/// and a tree without items; uniform buckets of 5, 7 and 9 items; a straw2 bucket.
 const BUCKETS: &[Row] = &[
     (-1, "b-1", 1, Tree, &[(3, ONE)]),
     (-2, "b-2", 1, Tree, &[(0, ONE), (3, 3 * ONE)]),
@@ -90,6 +90,7 @@ const BUCKETS: &[Row] = &[
             (8, 1),
         ],
     ),
+    (-12, "b-12", 1, Straw2, &[(2, ONE), (1, 2 * ONE), (0, 0)]),
 ];
 
 const MAP: Short<'static> = Short {
@@ -320,8 +321,8 @@ fn what_is_picked_ahead_is_what_is_picked(rt: HostRuntime) {
     let mut scratch = Scratch::build(rt.alloc(), &tables).expect(&rt, "error");
     scratch.turn_to(INPUTS);
     let tree = BucketNo::new(0);
-    // a list, a uniform bucket, one without items, and none
-    for place in [5, 6, 7, 8] {
+    // a list, a uniform bucket, one without items, another uniform bucket, and a straw2 bucket
+    for place in [5, 6, 7, 8, 11] {
         assert_none_with(&rt, &mut scratch, tree, BucketNo::new(place), 0);
     }
     assert_room(&rt, &mut scratch, tree);

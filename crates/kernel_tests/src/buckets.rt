@@ -1,15 +1,15 @@
 //! Worked rows, picks beside their plain forms, tables and scratches of a map.
 
-ghost use Rattle.std.specs.Prelude.{◌≡◌, ◌<◌, ◌^◌};
+ghost use Rattle.std.specs.Prelude.{◌≡◌, ◌<◌, ◌^◌, length};
 ghost use Rattle.crush_kinds.specs.Pick.{perm_of};
 ghost use Rattle.crush_bucket.specs.Tables.{scratch_of};
 
 use crate::drafts::{ONE, SOUND, Short, draft, entries};
 use crate::plain;
 use crate::same::{assert_same, assert_same_at};
-use Kind::{List, Tree, Uniform};
+use Kind::{List, Straw2, Tree, Uniform};
 use crush_bucket::{Scratch, Tables};
-use crush_kinds::{AnyBucket, Perm, Picker, can_be_asked};
+use crush_kinds::{AnyBucket, Perm, can_be_asked};
 use crush_map::{CrushMap, ItemId, Kind, Weight, has_equal_weights};
 use std::alloc::{AllocError, Global};
 use std::process::Abort;
@@ -24,15 +24,16 @@ pub(crate) fn next(seed: &mut u64) -> u32 {
 
 /// Picks from a bucket with the id `id` and `size` items for inputs and attempts, asked in turn
 /// with one scratch.
-fn ask<P: Picker>(
+fn ask(
     alloc: Global,
-    bucket: &P,
+    bucket: &AnyBucket,
     id: ItemId,
     size: usize,
     questions: &[(u32, u32)],
 ) -> Result<Vec<ItemId>, AllocError>
+    requires some { 0 < length bucket.now.items }
     requires few { size < 2 ^ 32 }
-    requires its { perm_of (P.bucket bucket.now) ≡ record { id = id; size = size } }
+    requires its { perm_of bucket.now ≡ record { id = id; size = size } }
 {
     let mut perm = Perm::build(alloc, id, size)?;
     let mut picks = Vec::new(alloc);
@@ -44,16 +45,17 @@ fn ask<P: Picker>(
 
 /// Asks a bucket with the id `id` and `size` items for eight inputs at once, at attempts from 0 on,
 /// and for each of the inputs alone.
-fn assert_eight<P: Picker>(
+fn assert_eight(
     rt: &impl Abort,
     alloc: Global,
-    bucket: &P,
+    bucket: &AnyBucket,
     id: ItemId,
     size: usize,
     xs: &[u32; 8],
 ) -> Result<(), AllocError>
+    requires some { 0 < length bucket.now.items }
     requires few { size < 2 ^ 32 }
-    requires its { perm_of (P.bucket bucket.now) ≡ record { id = id; size = size } }
+    requires its { perm_of bucket.now ≡ record { id = id; size = size } }
 {
     let mut perm = Perm::build(alloc, id, size)?;
     'attempts: for r in 0..9 {
@@ -115,6 +117,33 @@ const ALWAYS: &[Row<'static>] = &[
     (List, &[(4, 0), (9, 0)], 4),
     (Tree, &[(10, 0), (11, 0), (12, 0)], 12),
     (Tree, &[(10, 0), (11, ONE), (12, 0)], 11),
+    (Straw2, &[(4, ONE), (9, 0)], 4),
+    (Straw2, &[(4, 0), (9, 1)], 9),
+    (Straw2, &[(4, 0), (9, 0), (6, 0)], 4),
+    (Straw2, &[(4, 0), (9, 2 * ONE), (6, 0)], 9),
+];
+
+/// What three devices of 1.0 give for the inputs 0, 1, .., as `crushtool` says.
+const EVEN: [i32; 16] = [0, 0, 1, 0, 1, 0, 2, 1, 2, 2, 0, 0, 0, 0, 1, 1];
+
+/// The same where the second weighs 2.0.
+const RAISED: [i32; 16] = [0, 0, 1, 0, 1, 1, 2, 1, 2, 2, 0, 1, 1, 0, 1, 1];
+
+/// The greatest weight of an item of a straw2 bucket.
+const GREATEST: u32 = 2_147_483_647;
+
+/// Items of a straw2 bucket, an input, and the item that is picked, as `crushtool` says: two draws
+/// of which the greater has the smaller logarithm; a quotient that two draws give; the greatest
+/// weights.
+const EDGES: &[(&[(i32, u32)], u32, i32)] = &[
+    (&[(55_160, ONE), (64_590, ONE)], 1, 64_590),
+    (&[(64_590, ONE), (55_160, ONE)], 1, 64_590),
+    (&[(-2, 20_000 * ONE), (-3, 20_000 * ONE)], 40_602, -2),
+    (&[(-3, 20_000 * ONE), (-2, 20_000 * ONE)], 40_602, -3),
+    (&[(-2, GREATEST), (-3, GREATEST)], 0, -3),
+    (&[(-2, GREATEST), (-3, GREATEST)], 1, -2),
+    (&[(-2, GREATEST), (-3, GREATEST)], 2, -2),
+    (&[(-2, GREATEST), (-3, GREATEST)], 3, -3),
 ];
 
 /// The items of a list without weight.
@@ -183,6 +212,33 @@ fn buckets_answer_the_worked_rows(rt: HostRuntime) {
     assert_rows(&rt, rt.alloc(), FIRST, &[(0, 0)]);
     assert_rows(&rt, rt.alloc(), ALWAYS, &many);
     assert_rows(&rt, rt.alloc(), &light, &many);
+}
+
+/// Asserts that straw2 buckets of two ids pick the expected items for the inputs 0, 1, .. at the
+/// attempt 0.
+fn assert_firsts(rt: &impl Abort, alloc: Global, items: &[(i32, u32)], expected: &[i32; 16]) {
+    let entries = entries(alloc, items).expect(rt, "error");
+    let mut questions = Vec::new(alloc);
+    for x in 0..16 {
+        questions.push((x, 0)).expect(rt, "error");
+    }
+    for id in [-1, -77] {
+        let picks = picked(rt, alloc, Straw2, ItemId(id), &entries, &questions).expect(rt, "error");
+        for (pick, item) in picks.iter().zip(expected.iter()) {
+            assert_same(rt, pick, &ItemId(*item));
+        }
+    }
+}
+
+/// The worked rows of straw2 are met.
+#[test]
+fn straw2_buckets_answer_the_worked_rows(rt: HostRuntime) {
+    let alloc = rt.alloc();
+    assert_firsts(&rt, alloc, &[(0, ONE), (1, ONE), (2, ONE)], &EVEN);
+    assert_firsts(&rt, alloc, &[(0, ONE), (1, 2 * ONE), (2, ONE)], &RAISED);
+    for (items, x, item) in EDGES {
+        assert_row(&rt, alloc, *x, &(Straw2, *items, *item), &[(*x, 0)]);
+    }
 }
 
 /// A scratch answers as a new one where the short cut is taken or left, and x changes and comes
@@ -293,7 +349,7 @@ fn assert_random(rt: &impl Abort, alloc: Global, seed: &mut u64, round: u32, kin
 fn buckets_pick_as_their_plain_forms(rt: HostRuntime) {
     let mut seed = 2_026;
     for round in 0..200 {
-        for kind in [Uniform, List, Tree] {
+        for kind in [Uniform, List, Tree, Straw2] {
             assert_random(&rt, rt.alloc(), &mut seed, round, kind);
         }
     }
@@ -320,9 +376,66 @@ fn assert_random_eight(rt: &impl Abort, alloc: Global, seed: &mut u64, round: u3
 fn buckets_pick_for_eight_inputs_as_for_each(rt: HostRuntime) {
     let mut seed = 2_029;
     for round in 0..40 {
-        for kind in [Uniform, List, Tree] {
+        for kind in [Uniform, List, Tree, Straw2] {
             assert_random_eight(&rt, rt.alloc(), &mut seed, round, kind);
         }
+    }
+}
+
+/// Makes `size` items of which some weigh nothing, some little and some 256.0; the last weighs as
+/// much as all others may together where `last` is true.
+fn sparse_entries(
+    alloc: Global,
+    seed: &mut u64,
+    size: u16,
+    last: bool,
+) -> Result<Vec<(ItemId, Weight)>, AllocError> {
+    let weights = [0, 0, 1, 3, ONE, ONE, 2 * ONE, 256 * ONE];
+    let mut entries = Vec::new(alloc);
+    for place in 0..size {
+        let weight = if last && place.wrapping_add(1) == size {
+            10_240 * ONE
+        } else {
+            weights[(next(seed) % 8) as usize]
+        };
+        entries.push((ItemId(i32::from(place)), Weight(weight)))?;
+    }
+    Ok(entries)
+}
+
+/// Asserts that the straw2 bucket of a size picks what its plain form picks.
+fn assert_size(rt: &impl Abort, alloc: Global, seed: &mut u64, size: u16, last: bool) {
+    let entries = sparse_entries(alloc, seed, size, last).expect(rt, "error");
+    let questions = few_questions(rt, alloc, seed);
+    let case = u32::from(size);
+    assert_plain(rt, alloc, case, Straw2, ItemId(-1), &entries, &questions);
+}
+
+/// Sizes from 1 to 40, below, at and above full eights.
+#[test]
+fn straw2_buckets_of_each_size_pick_as_their_plain_forms(rt: HostRuntime) {
+    let mut seed = 2_033;
+    for size in 1..41 {
+        for last in [false, false, true] {
+            assert_size(&rt, rt.alloc(), &mut seed, size, last);
+        }
+    }
+}
+
+/// Two or three items with the greatest weights, of which many give one quotient to several draws.
+#[test]
+fn straw2_buckets_of_great_weights_pick_as_their_plain_forms(rt: HostRuntime) {
+    let alloc = rt.alloc();
+    let mut seed = 2_034;
+    for items in [
+        &[(0, GREATEST), (1, GREATEST), (2, 1)],
+        &[(0, 20_000 * ONE), (1, 20_000 * ONE), (2, 20_000 * ONE)],
+        &[(0, GREATEST), (1, 1_073_741_824), (2, 1_073_741_823)],
+        &[(0, 1), (1, 0), (2, GREATEST)],
+    ] {
+        let entries = entries(alloc, items).expect(&rt, "error");
+        let questions = any_questions(&rt, alloc, &mut seed);
+        assert_plain(&rt, alloc, 0, Straw2, ItemId(-1), &entries, &questions);
     }
 }
 
@@ -395,6 +508,16 @@ fn a_tree_of_the_most_items_picks_as_its_plain_form(rt: HostRuntime) {
     let entries = random_entries(rt.alloc(), &mut seed, MOST, false).expect(&rt, "error");
     let questions = any_questions(&rt, rt.alloc(), &mut seed);
     assert_plain(&rt, rt.alloc(), 0, Tree, id, &entries, &questions);
+}
+
+/// 200 questions of any inputs.
+#[test]
+fn a_straw2_bucket_of_the_most_items_picks_as_its_plain_form(rt: HostRuntime) {
+    let mut seed = 2_030;
+    let id = random_id(&mut seed);
+    let entries = random_entries(rt.alloc(), &mut seed, MOST, false).expect(&rt, "error");
+    let questions = any_questions(&rt, rt.alloc(), &mut seed);
+    assert_plain(&rt, rt.alloc(), 0, Straw2, id, &entries, &questions);
 }
 
 /// Devices 0 to 2 in buckets -2 and -3, which are in -1; -4 is empty.

@@ -2,6 +2,7 @@
 //! buckets.
 
 use crush_hash::{hash3, hash4};
+use crush_ln::tables::{LOGS, RECIPROCALS, REST_LOGS};
 use crush_map::{ItemId, Kind, Weight};
 use std::alloc::{AllocError, Global};
 
@@ -37,6 +38,7 @@ pub(crate) fn pick(
         Kind::Uniform => uniform(alloc, id, entries, x, r),
         Kind::List => Ok(list(id, entries, x, r)),
         Kind::Tree => Ok(tree(id, entries, x, r)),
+        Kind::Straw2 => Ok(straw2(entries, x, r)),
     }
 }
 
@@ -122,4 +124,49 @@ fn tree(id: ItemId, entries: &[(ItemId, Weight)], x: u32, r: u32) -> ItemId {
         }
     }
     item_at(entries, from.min(entries.len().saturating_sub(1)))
+}
+
+fn number_at(table: &[u64], place: usize) -> u64 {
+    match table.get(place) {
+        Some(number) => *number,
+        None => 0,
+    }
+}
+
+/// 2^44 times the binary logarithm of a draw and 1, about, by the tables.
+fn log(draw: u32) -> u64 {
+    let mut number = u64::from(draw).wrapping_add(1);
+    let mut exponent = 15u64;
+    for _ in 0..15 {
+        if number < 32_768 {
+            number = number.wrapping_mul(2);
+            exponent = exponent.wrapping_sub(1);
+        }
+    }
+    let part = (number / 256).wrapping_sub(128) as usize;
+    let product = number.wrapping_mul(number_at(&RECIPROCALS, part));
+    let rest = (product / 281_474_976_710_656 % 256) as usize;
+    let mantissa = number_at(&LOGS, part).wrapping_add(number_at(&REST_LOGS, rest)) / 16;
+    exponent
+        .wrapping_mul(17_592_186_044_416)
+        .wrapping_add(mantissa)
+}
+
+/// Picks from a straw2 bucket: each item that weighs something has a quotient, and the first of
+/// those with the least is picked.
+fn straw2(entries: &[(ItemId, Weight)], x: u32, r: u32) -> ItemId {
+    let mut picked = item_at(entries, 0);
+    let mut least = u64::MAX;
+    for entry in entries {
+        let weight = u64::from(entry.1.0);
+        if weight > 0 {
+            let draw = hash3(x, entry.0.word(), r) % 65_536;
+            let lack = 281_474_976_710_656u64.wrapping_sub(log(draw)) / weight;
+            if lack < least {
+                picked = entry.0;
+                least = lack;
+            }
+        }
+    }
+    picked
 }

@@ -2,10 +2,11 @@
 
 use crate::drafts::{EMIT, SOUND, Short, choose, draft};
 use crate::faults::assert_first;
-use FaultCode::{M12, M13, M15};
-use Kind::List;
+use FaultCode::{M7, M12, M13, M15};
+use Kind::{List, Straw2, Tree, Uniform};
 use crush_map::limits::{
-    COUNT_LIMIT, NUMBER_LIMIT, RULE_ID_LIMIT, TOTAL_TRIES_LIMIT, TRIES_LIMIT, VARY_R_LIMIT,
+    COUNT_LIMIT, NUMBER_LIMIT, RULE_ID_LIMIT, STRAW2_WEIGHT_LIMIT, TOTAL_TRIES_LIMIT, TRIES_LIMIT,
+    VARY_R_LIMIT,
 };
 use crush_map::{Element, FaultCode, Kind, Step, Tunables};
 use std::alloc::Global;
@@ -150,6 +151,38 @@ fn numbers_and_names_end_at_their_bounds(rt: HostRuntime) -> Result<(), Fail> {
             wanted: (*of_type, *code),
         };
         assert_second(&rt, rt.alloc(), &second, case)?;
+    }
+    Ok(())
+}
+
+/// The greatest weight of an item of a straw2 bucket: just below 32768.0.
+const GREATEST: u32 = STRAW2_WEIGHT_LIMIT;
+
+/// Kinds of buckets with items, and the fault: a weight is bounded in straw2 buckets alone.
+const WEIGHTS: &[(Kind, &[(i32, u32)], Option<FaultCode>)] = &[
+    (Straw2, &[(0, GREATEST)], None),
+    (Straw2, &[(0, GREATEST + 1)], Some(M7)),
+    (Straw2, &[(0, GREATEST), (3, GREATEST)], None),
+    (Straw2, &[(0, GREATEST), (3, GREATEST + 1)], Some(M7)),
+    (Straw2, &[(0, 0), (3, 0)], None),
+    (Straw2, &[], None),
+    (List, &[(0, GREATEST + 1)], None),
+    (Tree, &[(0, GREATEST + 1), (3, GREATEST)], None),
+    (Uniform, &[(0, GREATEST + 1)], None),
+    (List, &[(0, GREATEST + 1), (3, GREATEST + 1)], Some(M7)),
+];
+
+#[test]
+fn weights_of_straw2_buckets_end_at_their_bound(rt: HostRuntime) -> Result<(), Fail> {
+    let alloc = rt.alloc();
+    for (case, (kind, items, code)) in WEIGHTS.iter().enumerate() {
+        let buckets = [(-1, "host", 1, *kind, *items)];
+        let short = Short {
+            buckets: &buckets,
+            ..SOUND
+        };
+        let wanted = (*code, Element::Buckets, 0);
+        assert_first(&rt, alloc, draft(alloc, short)?, wanted, case)?;
     }
     Ok(())
 }

@@ -9,10 +9,10 @@ use crate::drafts::{
 use crate::same::{assert_same, assert_same_at};
 use Element::{Buckets, Devices, End, Rules, Types};
 use FaultCode::{M1, M2, M3, M4, M5, M6, M7, M8, M9, M10, M11, M12, M13, M14, M15};
-use Kind::{List, Uniform};
+use Kind::{List, Straw2, Uniform};
 use crush_map::limits::{
-    COUNT_LIMIT, ITEM_LIMIT, NUMBER_LIMIT, RULE_ID_LIMIT, STEP_LIMIT, TOTAL_TRIES_LIMIT,
-    TOTAL_WEIGHT_LIMIT, TRIES_LIMIT, VARY_R_LIMIT,
+    COUNT_LIMIT, ITEM_LIMIT, NUMBER_LIMIT, RULE_ID_LIMIT, STEP_LIMIT, STRAW2_WEIGHT_LIMIT,
+    TOTAL_TRIES_LIMIT, TOTAL_WEIGHT_LIMIT, TRIES_LIMIT, VARY_R_LIMIT,
 };
 use crush_map::{CrushMap, Element, FaultCode, ItemId, Kind, MapDraft, MapFault, Step, Tunables};
 use std::alloc::{AllocError, Global};
@@ -94,8 +94,11 @@ const HOST: ShortBucket<'static> = (-1, "host", 1, List, &[(0, ONE), (3, ONE)]);
 /// The greatest weight.
 const MOST: u32 = TOTAL_WEIGHT_LIMIT as u32;
 
+/// More than an item of a straw2 bucket may weigh.
+const HEAVY: u32 = STRAW2_WEIGHT_LIMIT + 1;
+
 /// Buckets, the last of which has the fault: by its id, its name, its type, its items by place,
-/// weights that differ, and their sum.
+/// weights that differ, their sum, and a weight of a straw2 bucket.
 const BUCKETS: &[(&[ShortBucket], FaultCode)] = &[
     (&[(1, "", 7, List, &[])], M12),
     (&[HOST, (LAST_BUCKET - 1, "b", 1, List, &[])], M12),
@@ -121,6 +124,26 @@ const BUCKETS: &[(&[ShortBucket], FaultCode)] = &[
     ),
     (&[(-2, "b", 1, Uniform, &[(0, 1), (3, MOST)])], M8),
     (&[HOST, (-2, "row", 1, List, &[(9, 1)])], M5),
+    (&[HOST, (-2, "two", 1, Straw2, &[(0, HEAVY), (3, 1)])], M7),
+    (&[HOST, (-2, "two", 1, Straw2, &[(0, 0), (3, HEAVY)])], M7),
+    (&[HOST, (-2, "two", 1, Straw2, &[(-1, MOST)])], M7),
+    (&[HOST, (-2, "two", 1, Straw2, &[(0, 1), (3, MOST)])], M7),
+    (
+        &[
+            HOST,
+            (
+                -2,
+                "two",
+                1,
+                Straw2,
+                &[(0, HEAVY - 1), (3, HEAVY - 1), (-1, 2)],
+            ),
+        ],
+        M7,
+    ),
+    (&[HOST, (-2, "two", 1, Straw2, &[(0, HEAVY), (9, 1)])], M5),
+    (&[HOST, (-2, "two", 1, Straw2, &[(0, HEAVY), (0, 1)])], M6),
+    (&[HOST, (-2, "two", 0, Straw2, &[(0, HEAVY)])], M9),
 ];
 
 #[test]

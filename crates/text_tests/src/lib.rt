@@ -11,6 +11,8 @@ mod legacy;
 #[cfg(test)]
 mod lines;
 #[cfg(test)]
+mod mark;
+#[cfg(test)]
 mod read;
 #[cfg(test)]
 mod same;

@@ -123,3 +123,68 @@ rule q {
 fn each_kind_of_line_is_written(rt: HostRuntime) -> Result<(), Fail> {
     assert_written(&rt, rt.alloc(), EACH_KIND, EACH_KIND_OF_LINE)
 }
+
+/// A map of straw2 buckets among others.
+const STRAW2: Short<'static> = Short {
+    types: &[(0, "osd"), (1, "host")],
+    devices: &[(0, "osd.0")],
+    buckets: &[
+        (-1, "a", 1, Kind::List, &[(0, ONE)]),
+        (-2, "b", 1, Kind::Straw2, &[(-1, 2_147_483_647), (0, 0)]),
+        (-3, "c", 1, Kind::Straw2, &[]),
+    ],
+    ..SOUND
+};
+
+/// Its canonical text, which asks for straw2 by its first line.
+const WITH_THE_MARK: &str = map_text!(
+    "# crushcalc: straw2
+# begin crush map
+",
+    "
+# devices
+device 0 osd.0
+
+# types
+type 0 osd
+type 1 host
+
+# buckets
+host a {
+\tid -1
+\talg list
+\thash 0
+\titem osd.0 weight 1.00000
+}
+host b {
+\tid -2
+\talg straw2
+\thash 0
+\titem a weight 32767.99999
+\titem osd.0 weight 0.00000
+}
+host c {
+\tid -3
+\talg straw2
+\thash 0
+}
+
+# rules
+
+# end crush map
+"
+);
+
+#[test]
+fn a_map_with_straw2_buckets_is_written_behind_the_mark(rt: HostRuntime) -> Result<(), Fail> {
+    assert_written(&rt, rt.alloc(), STRAW2, WITH_THE_MARK)
+}
+
+/// A text that asks for straw2, and whose map has none, is written without the mark.
+#[test]
+fn a_mark_that_is_not_needed_is_not_written(rt: HostRuntime) -> Result<(), Fail> {
+    let mut text = String::new(rt.alloc());
+    text.push_str("# crushcalc: straw2\n")?;
+    text.push_str(CANONICAL)?;
+    assert_canonical(&rt, rt.alloc(), text.as_str(), CANONICAL)
+}

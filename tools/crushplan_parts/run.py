@@ -1,0 +1,214 @@
+"""Requests on tenants that have the cluster, and the replies to them."""
+from .cluster import State
+from .faults import Fault
+from .service import change, get
+
+MOST_PAIRS, MOST_CHANGES = 1024, 1024
+
+
+class Side:
+    """A tenant: pools that share the texts of all maps of a run."""
+
+    def __init__(self, texts):
+        self.texts, self.requests, self.replies, self.version = texts, [], None, 0
+
+    def add(self, request):
+        """Adds a request, and returns its place."""
+        self.requests.append(request)
+        return len(self.requests) - 1
+
+
+class Asked:
+    """Where groups of a pool were asked for: places of requests, with what held then."""
+
+    __slots__ = ("pool", "places", "pairs", "exceptions", "states")
+
+    def __init__(self, pool, pairs, exceptions, states):
+        self.pool, self.places, self.pairs, self.exceptions, self.states = pool, [], pairs, exceptions, states
+
+
+class Counting:
+    """The usage of a pool that was asked for: the place of the request, and the groups that it counts otherwise than they
+    lie, as it counts them and as they lie."""
+
+    def __init__(self, pool, place):
+        self.pool, self.place, self.plain, self.own = pool, place, None, None
+
+
+class Run:
+    """A run on some of the pools, with upmap items and other exceptions. `later` are the texts of the maps that it will
+    import."""
+
+    def __init__(self, plan, pools, pairs, exceptions, later=()):
+        self.plan, self.pools, self.pairs, self.exceptions = plan, list(pools), pairs, exceptions
+        self.changed, self.side_of, sides = {}, {}, {}
+        for id_ in self.pools:
+            texts = tuple(it.of[id_] for it in (plan.texts, *later))
+            if texts not in sides:
+                sides[texts] = Side(texts)
+            self.side_of[id_] = sides[texts]
+        self.sides = list(sides.values())
+        self.import_map()
+        self.set_states({id_: plan.state(id_) for id_ in plan.known if plan.state(id_) != State()}, False)
+        for id_ in self.pools:
+            pool = plan.cluster.pools[id_]
+            fields = {it: getattr(pool, it) for it in ("kind", "size", "rule", "pg_num", "pgp_num", "hashpspool")}
+            self.add(id_, change("/pools", id=id_, name=f"pool-{id_}", **fields))
+            if pairs[id_] and not self.is_batched(id_):
+                self.set_pairs(id_, pairs[id_])
+
+    def add(self, pool, request):
+        return self.side_of[pool].add(request)
+
+    def import_map(self):
+        """Imports the texts of the next map."""
+        for it in self.sides:
+            it.add(change("/maps", text=it.texts[it.version].text()))
+            it.version += 1
+
+    def set_states(self, states, are_new=True):
+        """Changes states of devices, in as many requests as they need."""
+        if are_new:
+            self.changed = {**self.changed, **states}
+        for side in self.sides:
+            known = side.texts[side.version - 1].devices()
+            changes = [{"id": id_, "reweight": it.reweight, "up": it.up} for id_, it in sorted(states.items()) if id_ in known]
+            for start in range(0, len(changes), MOST_CHANGES):
+                side.add(change("/devices", devices=changes[start : start + MOST_CHANGES]))
+
+    def set_pairs(self, pool, pairs):
+        side = self.side_of[pool]
+        known = side.texts[side.version - 1].items
+        own = [{"group": group, "from": old, "to": new} for group, own in pairs.items() for old, new in own if old in known and new in known]
+        self.add(pool, change("/pools/exceptions", id=pool, exceptions=own))
+
+    def ask_groups(self, asked, groups):
+        for it in groups:
+            asked.places.append((it, self.add(asked.pool, get(f"/pools/{asked.pool}/groups/{it}"))))
+        return asked
+
+    def is_batched(self, pool):
+        """Returns whether a pool has more pairs than crushcalc takes at once."""
+        return sum(map(len, self.pairs[pool].values())) > MOST_PAIRS
+
+    def lists(self, pool, groups, pairs=None, exceptions=None):
+        """Asks where groups lie. More pairs than a pool may have are set part by part. `pairs` by
+        group, and other exceptions, stand in the place of the run's own."""
+        groups = sorted(groups)
+        own = self.pairs[pool] if pairs is None else pairs
+        changed = self.changed
+        asked = Asked(pool, own, exceptions or self.exceptions, lambda it: changed.get(it) or self.plan.state(it))
+        if pairs is None and not self.is_batched(pool):
+            return self.ask_groups(asked, groups)
+        self.ask_groups(asked, [it for it in groups if it not in own])
+        for part in parts_of({it: own[it] for it in groups if it in own}):
+            self.set_pairs(pool, part)
+            self.ask_groups(asked, part)
+        self.set_pairs(pool, {} if self.is_batched(pool) else self.pairs[pool])
+        return asked
+
+    def usage(self, pool):
+        """Asks how much lies on each device, and where the groups lie that a request for this counts otherwise."""
+        found = Counting(pool, self.add(pool, get(f"/pools/{pool}/usage")))
+        others = self.exceptions.of(pool)
+        if self.plan.is_affine(pool):
+            others = range(self.plan.cluster.pools[pool].pg_num)
+        elif self.is_batched(pool):
+            others = others | self.pairs[pool].keys()
+        if self.is_batched(pool):
+            found.plain = self.ask_groups(Asked(pool, {}, self.exceptions, None), sorted(others))
+        if others:
+            found.own = self.lists(pool, others)
+        return found
+
+    def impact(self, pool, devices):
+        """Asks which groups can move where reweights of devices are lowered."""
+        return pool, devices, [self.add(pool, get(f"/pools/{pool}/impact/{it}")) for it in devices]
+
+    def moves_to(self, pool):
+        """Asks which groups lie elsewhere on the last version than on the one before."""
+        version = self.side_of[pool].version
+        return pool, self.add(pool, get(f"/pools/{pool}/moves/{version - 1}/{version}"))
+
+    # ---- replies
+
+    def take(self, side, replies):
+        """Takes the replies of a tenant; a Fault where a request was refused."""
+        side.replies = [said for _, said in replies]
+        for request, (status, said) in zip(side.requests, replies):
+            if status not in (200, 201):
+                raise Fault(f"{self.plan.client.where} refuses {request.method} {request.path} of its own cluster: {status} {said}")
+
+    def reply(self, pool, place):
+        return self.side_of[pool].replies[place]
+
+    def placements(self, asked):
+        """Returns where groups lie that were asked for."""
+        pool, replies, exceptions = self.plan.cluster.pools[asked.pool], self.side_of[asked.pool].replies, asked.exceptions
+        return {group: exceptions.settled(pool, group, replies[place], asked.pairs.get(group, ()), asked.states) for group, place in asked.places}
+
+    def counted(self, asked):
+        """Returns the entries and the primaries of each device."""
+        entries, primaries, groups = {}, {}, {}
+        for row in self.reply(asked.pool, asked.place)["rows"]:
+            entries[row["device"]], primaries[row["device"]], groups[row["device"]] = row["entries"], row["primaries"], row["groups"]
+        if asked.own:
+            replies = self.side_of[asked.pool].replies
+            for _, place in (asked.plain or asked.own).places:
+                count(entries, primaries, replies[place]["up"], replies[place]["primary"], -1)
+            for it in self.placements(asked.own).values():
+                count(entries, primaries, it.up, it.primary, 1)
+        return Usage(entries, primaries, asked.plain is None and entries != groups)
+
+    def can_move(self, asked):
+        """Returns the groups of impact lists, and those with an exception that names a device."""
+        pool, devices, places = asked
+        found = {group for place in places for group in self.reply(pool, place)["groups"]}
+        return found | self.plan.with_exception_to(pool, devices)
+
+    def moves(self, asked):
+        """Returns the groups that lie elsewhere on the next version: up before and after."""
+        pool, place = asked
+        found = {row["group"]: (row["old"], row["new"]) for row in self.reply(pool, place)["rows"]}
+        return self.plan.led_moves(pool, found) if self.plan.is_affine(pool) else found
+
+
+class Usage:
+    """Entries of up lists and primaries by device. `doubled` is whether a list has a device twice,
+    as far as is known."""
+
+    def __init__(self, entries, primaries, doubled=False):
+        self.entries, self.primaries, self.doubled = entries, primaries, doubled
+        self.whole = sum(entries.values())
+
+    def total(self):
+        return self.whole
+
+    def after(self, moves):
+        """Returns the usage once moves are over: pairs of a placement before and after."""
+        entries, primaries = dict(self.entries), dict(self.primaries)
+        for before, now in moves:
+            count(entries, primaries, before.up, before.primary, -1)
+            count(entries, primaries, now.up, now.primary, 1)
+        return Usage(entries, primaries, self.doubled)
+
+
+def count(entries, primaries, up, primary, sign):
+    for device in up:
+        if device is not None:
+            entries[device] = entries.get(device, 0) + sign
+    if primary is not None:
+        primaries[primary] = primaries.get(primary, 0) + sign
+
+
+def parts_of(pairs):
+    """Yields parts of upmap items by group, each with as many pairs as a pool may have."""
+    part, room = {}, MOST_PAIRS
+    for group, own in pairs.items():
+        if len(own) > room:
+            yield part
+            part, room = {}, MOST_PAIRS
+        part[group] = list(own)[:MOST_PAIRS]
+        room -= len(part[group])
+    if part:
+        yield part
