@@ -1,7 +1,6 @@
 -- Where the buckets of a map stand in its tables.
-use Rattle.std.proofs.Common.{◌≡◌, ℕ, ℤ, zero, suc, ◌+◌, ◌<◌, List, [], ◌∷◌, length, map, slice_index_or, Bool, true, false, Option, Some, None, Contains, refl, ap, sym, ◌∙◌, arith}
+use Rattle.std.proofs.Common.{◌≡◌, ℕ, ℤ, suc, ◌+◌, ◌<◌, List, [], ◌∷◌, length, map, slice_index_or, Bool, true, false, Some, Contains, refl, ap, sym, ◌∙◌, arith}
 use Rattle.std.specs.List.{position_from, slice_get}
-use Rattle.std.specs.Ordering.{int_eq}
 use Rattle.std.proofs.lemmas.Bool.Decides.{Decides-int_eq}
 use Rattle.std.proofs.lemmas.List.{get_or-map, length-map}
 use Rattle.std.proofs.lemmas.Option.{slice_get_read}
