@@ -1,23 +1,22 @@
 """The program from its arguments to its exit status."""
+import importlib
 import json
 import os
 import signal
 import sys
 
-from . import arguments, check, compare, drain, fail, fetch, locate, upmap, usage
-from .cluster import read_cluster
+from . import arguments
 from .faults import Fault
-from .output import written
-from .placing import Plan
-from .service import Script, Server, found_program
+from .service import Script, found_program
 
-COMMANDS = {"check": check.check, "usage": usage.usage, "compare": compare.compare, "drain": drain.drain, "fail": fail.fail, "upmap": upmap.upmap, "locate": locate.locate}
 FAILED = UNKNOWN = 2
 INTERRUPTED = 130
 
 
 def client_of(asked, beside):
     if asked.service:
+        from .server import Server
+
         return Server(asked.service)
     return Script(found_program(asked.program or os.environ.get("CRUSHCALC"), beside))
 
@@ -33,18 +32,66 @@ def said_version(beside):
 
 def answered(asked, beside):
     """Returns the exit status, once the answer is written."""
+    # of the commands that one alone is read which is asked for
+    command = getattr(importlib.import_module(f".{asked.command}", __package__), asked.command)
+    from .output import written
+
     if asked.command == "fetch":
-        answer, plan = fetch.fetch(asked), None
+        answer, plan = command(asked), None
     else:
+        from .cluster import read_cluster
+        from .placing import Plan
+
         cluster, client = read_cluster(asked.folder, asked), client_of(asked, beside)
         try:
             plan = Plan(cluster, client)
-            answer = doubted(COMMANDS[asked.command](plan, asked), plan.doubt)
+            answer = doubted(command(plan, asked), plan.doubt)
         finally:
             client.end()
-    sys.stdout.write(written(answer, asked.command, asked.form, plan))
-    sys.stdout.flush()
+    write_out(written(answer, asked.command, asked.form, plan))
     return answer.status
+
+
+def write_out(text):
+    """Writes an answer; a Fault where it can't be written whole."""
+    try:
+        sys.stdout.write(text)
+        sys.stdout.flush()
+    except BrokenPipeError:
+        raise
+    except (OSError, ValueError) as error:
+        close_out()
+        raise Fault(f"the answer can't be written to standard output: {getattr(error, 'strerror', None) or error}") from None
+
+
+def open_streams():
+    """Has both streams there, also where they were closed, and characters that a terminal lacks written as a mark."""
+    if sys.stderr is None:
+        sys.stderr = open(os.devnull, "w")
+    if sys.stdout is None:
+        sys.stdout = Closed()
+    for stream in (sys.stdout, sys.stderr):
+        if hasattr(stream, "reconfigure"):
+            stream.reconfigure(errors="replace")
+
+
+def close_out():
+    """Has what is left of standard output go nowhere."""
+    if hasattr(sys.stdout, "fileno"):
+        os.dup2(os.open(os.devnull, os.O_WRONLY), sys.stdout.fileno())
+
+
+class Closed:
+    """Standard output where there is none."""
+
+    def write(self, text):
+        raise OSError("it is closed")
+
+    def flush(self):
+        """Has nothing to write."""
+
+    def isatty(self):
+        return False
 
 
 def doubted(answer, doubt):
@@ -57,7 +104,7 @@ def doubted(answer, doubt):
 
 def failed(asked, why):
     """Says why there is no answer, in JSON too where that was asked for."""
-    if getattr(asked, "form", "") == "json":
+    if getattr(asked, "form", "") == "json" and not isinstance(sys.stdout, Closed):
         print(json.dumps({"crushplan": 1, "command": asked.command, "status": FAILED, "error": why}))
     print(f"crushplan: {why}", file=sys.stderr)
     return FAILED
@@ -70,6 +117,7 @@ def terminated(*_):
 def main(words, beside):
     """Does what the arguments ask. `beside` are the places where crushcalc may be."""
     signal.signal(signal.SIGTERM, terminated)
+    open_streams()
     parser = arguments.parser()
     asked = parser.parse_args(words)
     if asked.version:
@@ -86,7 +134,7 @@ def main(words, beside):
         print("crushplan: interrupted", file=sys.stderr)
         return INTERRUPTED
     except BrokenPipeError:
-        os.dup2(os.open(os.devnull, os.O_WRONLY), sys.stdout.fileno())
+        close_out()
         return FAILED
     except RecursionError:
         return failed(asked, "the map is nested too deeply")

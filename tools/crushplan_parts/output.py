@@ -1,11 +1,7 @@
 """What is written: tables for people, CSV, JSON; colours and progress on a terminal alone."""
-import csv
-import io
 import json
 import os
-import shutil
 import sys
-import textwrap
 import time
 
 UNITS = ("B", "KiB", "MiB", "GiB", "TiB", "PiB", "EiB")
@@ -25,15 +21,22 @@ class Answer:
 
 class Table:
     """Rows under heads; numbers stand at the right. A title stands above. Where a terminal is too
-    narrow, the words of a last column go on below, or columns are cut."""
+    narrow, the columns `spare` are left out, the words of a last column go on below, or columns are cut."""
 
-    def __init__(self, heads, rows, title=None):
-        self.heads, self.rows, self.title = heads, rows, title
+    def __init__(self, heads, rows, title=None, spare=()):
+        self.heads, self.rows, self.title, self.spare = heads, rows, title, spare
+
+    def without(self, place):
+        """Returns the table without a column."""
+        cut_out = lambda row: [*row[:place], *row[place + 1 :]]
+        return Table(cut_out(self.heads), [cut_out(it) for it in self.rows], self.title, [it - 1 for it in self.spare if it > place])
 
     def text(self, width):
         cells = [[shown(it) for it in row] for row in self.rows]
         right = [all(is_number(row[place]) for row in self.rows) for place in range(len(self.heads))]
         widths = [max(len(head), *(len(row[place]) for row in cells)) if cells else len(head) for place, head in enumerate(self.heads)]
+        if width and self.spare and sum(widths) + 2 * len(widths) > width:
+            return self.without(self.spare[0]).text(width)
         over = sum(widths) + 2 * len(widths) - width if width else 0
         wrapped = over > 0 and not right[-1] and widths[-1] - over >= NARROW
         if wrapped:
@@ -46,11 +49,18 @@ class Table:
         lines = [self.title] if self.title else []
         for row in ([list(self.heads)] if any(self.heads) else []) + cells:
             *first, last = row
-            for part in textwrap.wrap(last, widths[-1]) or [""] if wrapped else [last]:
+            for part in wrap(last, widths[-1]) if wrapped else [last]:
                 parts = [cut(it, size).rjust(size) if of else cut(it, size).ljust(size) for it, size, of in zip([*first, part], widths, right)]
                 lines.append(("  " + "  ".join(parts)).rstrip())
                 first = [""] * len(first)
         return "\n".join(lines)
+
+
+def wrap(text, width):
+    """Returns a text in lines of a width."""
+    import textwrap
+
+    return textwrap.wrap(text, width) or [""]
 
 
 def is_number(value):
@@ -102,10 +112,17 @@ def painted(text, colour):
 
 def width():
     """Returns how wide a table may be: the terminal's width, or 0 where there is none."""
-    return shutil.get_terminal_size().columns if sys.stdout.isatty() else 0
+    if not sys.stdout.isatty():
+        return 0
+    import shutil
+
+    return shutil.get_terminal_size().columns
 
 
 def csv_text(rows):
+    import csv
+    import io
+
     out = io.StringIO()
     writer = csv.writer(out, lineterminator="\n")
     for row in rows:
