@@ -193,7 +193,7 @@ export async function takeOsd(tenant, osd, map, fresh, open, work) {
     const cluster = await open(), on = cluster.map, dump = map?.dump;
     const rules = new Map(on.rules.map((it) => [it.id, it])), { kept: pools, left: faults } = dump ? computedPools(osd.pools, (id) => dump.rules.get(id), dump.file, dump) : computedPools(osd.pools, (id) => rules.get(id), "the map", null);
     const pairs = new Map(pools.map((it) => [it, pairsOf(osd, it, on)]));
-    const left = [...faults].map(([it, why]) => ({ pool: it.id, devices: reached(it, on, dump), text: `pool ${it.name} (${it.id}) isn't computed: ${why}` })), lines = [...left.map((it) => it.text), ...oddities(osd, dump, pools)];
+    const left = [...faults].map(([it, why]) => ({ pool: it.id, name: it.name, devices: reached(it, on, dump), text: `pool ${it.name} (${it.id}) isn't computed: ${why}` })), lines = [...left.map((it) => it.text), ...oddities(osd, dump, pools)];
     work.step("Setting the states of devices");
     const states = await setAllStates(cluster, statesOf(osd, on), { whole: fresh }), lacking = [...osd.states.keys()].filter((id) => !on.byId.has(id));
     if (lacking.length) lines.push(`${osd.file} has devices that the map lacks; they hold nothing: ${some(lacking.map((it) => `osd.${it}`))}`);
