@@ -214,8 +214,8 @@ function start(said) {
     const links = tenants().length > 0 && [el("p", {}, "Open here before:"), el("ul", { class: "tenants" }, tenants().map((it) => el("li", {}, el("a", { href: `#/${it}/map` }, it))))];
     return el("section", { class: "start" }, el("h1", { tabindex: "-1" }, "Plan a cluster on paper"),
         el("p", { class: "lead" }, "May this host be drained? Which devices are full, what does a new host move? Computed from what the cluster itself writes of its CRUSH map, without touching the cluster."),
-        el("div", { class: "note" }, el("p", {}, "Look first for ", el("code", {}, "alg straw2"), " in your map's text: most clusters have it, and crushcalc can't compute such buckets unless the text's first line is ", el("code", {}, "# crushcalc: straw2"), "."),
-            el("details", {}, el("summary", {}, "What can be done with such a map"), aboutStraw())),
+        el("div", { class: "note" }, el("p", {}, "Computed are straw2, list, tree and uniform buckets, classes of devices, and exceptions of all kinds, as clusters of today have them. What crushcalc can't compute is named with its pools: buckets of ", el("code", {}, "alg straw"), ", MSR rules, local tries, weight sets with several positions."),
+            el("details", {}, el("summary", {}, "What can be done with straw buckets"), aboutStraw())),
         outcome,
         el("div", { class: "card", role: "group", "aria-labelledby": "new" }, el("h2", { id: "new" }, "Begin with the map of a cluster"),
             labelled("Cluster (tenant)", name, "A name of your choice. Under it the service keeps this cluster's maps, pools and device states, apart from all others; it calls that a tenant."),

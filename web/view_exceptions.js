@@ -113,7 +113,7 @@ async function tried(cluster, pool, before, list, work) {
         async change(copy, group, held) {
             const own = held.get(pool.id).withPairs(list);
             held.set(pool.id, own);
-            await copy.exceptions(pool, own.isBatched() ? [] : list);
+            await copy.exceptions(pool, own.sent());
             broken = await breaking(cluster, copy, pool, changed(before, list), own, work);
         },
     }], work);

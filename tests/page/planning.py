@@ -13,7 +13,7 @@ from page import DRAINED, EXAMPLES, TOP, example, first, unlike
 from model.placed import Placed
 
 CLICKS = 3
-STRAW = "Nothing is wrong with such a map: Ceph computes these buckets"
+STRAW = "Nothing is wrong with such a map: Ceph computes straw buckets"
 NOT_COMPUTED = {"X2", "X3", "X4", "M13"}
 MARKUP = '<b>cat</b> & "dog"<img src=x onerror=alert(1)>.jpg'
 PAGE = (TOP / "docs" / "PLANNING.md").read_text()
@@ -87,7 +87,7 @@ def names_that_no_tenant_may_have(page):
 
 
 def the_first_view_says_what_to_do(page):
-    """Before anything is dropped: what the name is for, and that straw2 can't be computed."""
+    """Before anything is dropped: what the name is for, and what can't be computed."""
     page.fresh()
     label, hint = (page.browser.text(it) for it in ("label[for=name]", "#name-hint"))
     note, whole = page.browser.text(".start .note"), page.browser.text("main")
