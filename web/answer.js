@@ -44,10 +44,10 @@ async function removeBroken(cluster, copy, pool, version, held, { ids, states, m
 }
 
 // What differs.
-async function differ(pools, before, after) {
+async function differ(pools, before, after, how) {
     const found = [];
     for (const pool of pools) {
-        const lists = { before: before.get(pool.id), after: after.get(pool.id) }, it = await readLong("differences", [], { pool, ...lists });
+        const lists = { before: before.get(pool.id), after: after.get(pool.id) }, it = await readLong("differences", [], { pool, ...lists, ...how });
         if (!it) throw notRead(`Lists of ${pool.name}`);
         found.push({ pool, lists, ...it });
     }
@@ -62,7 +62,7 @@ async function allLists(copy, pools, version, held, state, words, work) {
 }
 
 // The stages of a change on a copy of pools that have one text.
-async function stagesOn(cluster, group, copy, stages, work) {
+async function stagesOn(cluster, group, copy, stages, how, work) {
     const { pools } = group, held = new Map(), found = [];
     for (const it of pools) held.set(it.id, (await exceptionsOf(cluster, it, work)).withPairs(copy.pairs.get(it.id)));
     const before = await allLists(copy, pools, NOW, held, statesOn(cluster.map, cluster.known.states), "Where the groups lie now", work);
@@ -81,7 +81,7 @@ async function stagesOn(cluster, group, copy, stages, work) {
             }
         }
         if (removed) after = await allLists(copy, pools, version, held, state, words, work);
-        found.push(Object.assign(await differ(pools, before, after), { removed }));
+        found.push(Object.assign(await differ(pools, before, after, how), { removed }));
     }
     return found;
 }
@@ -90,11 +90,12 @@ async function stagesOn(cluster, group, copy, stages, work) {
 // exceptions Ceph would remove. `change` of a stage changes the copy, and gives the version on
 // which it is looked at, if another; `states` are those of devices then; `then` gives what decides
 // which exceptions are removed: the states, and the devices that have another one, or another map.
-// `later` are the texts of another map, which the copies get.
-export async function stagesOf(cluster, pools, stages, work, later) {
+// `later` are the texts of another map, which the copies get; `how` says whether another order alone
+// is no move in a replicated pool (`unordered`).
+export async function stagesOf(cluster, pools, stages, work, later = null, how = {}) {
     const found = stages.map(() => Object.assign([], { removed: 0 }));
     for (const group of groupsOf(cluster, pools, later)) {
-        const own = await withCopy(cluster, group, work, (copy) => stagesOn(cluster, group, copy, stages, work));
+        const own = await withCopy(cluster, group, work, (copy) => stagesOn(cluster, group, copy, stages, how, work));
         own.forEach((it, place) => {
             found[place].push(...it);
             found[place].removed += it.removed;

@@ -228,7 +228,7 @@ function start(said) {
 
 // What came of dumps or a map for a new cluster, or for one that has no map yet.
 async function takeFirst(tenant, files, work) {
-    const osd = osdIn(files), map = mapIn(files, osd);
+    const osd = osdIn(files), map = await mapIn(files, osd);
     if (!map) throw new Error(NO_MAP);
     const version = await importMap(tenant, map, (file) => take([file]));
     return osd ? takeWhole(tenant, map, files, work, version === 1 && known(tenant).seen === 1) : done(tenant, `${map.name} is version ${version} of the map. `, ["pools", "Make a pool"], ["compare", "Compare the versions"], version);
@@ -270,7 +270,7 @@ async function takeFullness(tenant, files, work) {
 async function takeMore(tenant, files, work) {
     if (files.saved) return { said: takeSaved(files.saved, cluster.summary) };
     if (files.states) return { said: await takeStates(cluster, files.states) };
-    const osd = osdIn(files), map = mapIn(files, osd, (id) => cluster.map.byId.has(id), cluster.known.pools);
+    const osd = osdIn(files), map = await mapIn(files, osd, (id) => cluster.map.byId.has(id), cluster.known.pools);
     if (map && osd) {
         if (signature(readMap(map.text)) !== signature(readMap(cluster.texts.get(tenant)))) await importMap(tenant, map, (file) => take([file]));
         return takeWhole(tenant, map, files, work, false);

@@ -67,11 +67,11 @@ export function crushIn(files, there) {
 // The map of the files: its texts for the service, the first one alone where it is no dump, and the
 // dump where it is one. `pools` are those that it is for, where no osd.json says them: of those that
 // can't be computed `left` says why.
-export function mapIn(files, osd, there, pools = []) {
+export async function mapIn(files, osd, there, pools = []) {
     const dump = crushIn(files, there);
     if (!dump) return files.text && { name: files.text.name, ...marked(files.text.text), places: {}, shown: 1, dump: null, get texts() { return [this.text]; } };
     const { kept, left } = computedPools(osd?.pools ?? pools, (id) => dump.rules.get(id), dump.file, dump);
-    const written = textsOf(dump, kept, osd ? [...osd.states.keys()].filter((id) => !dump.devices.has(id)) : []);
+    const written = await textsOf(dump, kept, osd ? [...osd.states.keys()].filter((id) => !dump.devices.has(id)) : []);
     return { name: files.crush.name, ...written, text: written.texts[0], more: 0, dump, left };
 }
 

@@ -8,7 +8,7 @@ import tempfile
 from pathlib import Path
 
 from clusters import ONE, TUNABLES, TYPES, Cluster
-from kept import plan, same_compare, same_drain, same_failure, same_usage
+from kept import field, groups_shown, plan, same_compare, same_drain, same_failure, same_usage
 from page import first, unlike
 
 GIB = 1 << 30
@@ -234,6 +234,38 @@ def weight_sets_are_a_text_each(page, folder):
 
 
 @with_folder
+def upmap_lines_with_set_primaries_are_tried(page, folder):
+    """Lines as they stand in a shell's script, beside what is set: what moves, and which primaries
+    change, is what crushplan says."""
+    today, program = Today(), page.program
+    osd = today.osd(POOLS[:1], STATES)
+    crush = today.crush()
+    osd.update({key: own for key, own in exceptions_of(today, folder, program, crush, today.osd(POOLS, STATES)).items() if key == "pg_upmap"})
+    groups = {it["id"]: it for it in files_of(folder, program, crush, osd)}
+    up = lambda id_: groups[id_]["up"]
+    free = next(it for it in range(24) if it not in (14, 17) and it // 4 not in {of // 4 for of in up("1.2")})
+    lines = [f"ceph osd pg-upmap-primary 1.2a {up('1.2a')[1]} &", f"ceph osd pg-upmap-items 1.2 {up('1.2')[0]} {free};", f"ceph osd pg-upmap-primary 1.9 {up('1.9')[-1]}", f"ceph osd pg-upmap-primary 1.b {up('1.b')[0]}"]
+    (folder / "commands").write_text("\n".join(lines) + "\n")
+    dropped(page, folder)
+    said = plan(program, folder, "upmap", folder / "commands")
+    page.browser.tab("Pools")
+    page.browser.until(lambda: page.browser.all("main tbody tr[data-pool='1'] a"), "the number of exceptions isn't shown")
+    page.browser.click("main tbody tr[data-pool='1'] a")
+    page.browser.one("#pairs")
+    page.browser.run("document.getElementById('pairs').value = arguments[0]", "\n".join(lines))
+    page.browser.click("#try")
+    page.browser.one("#answer")
+    page.settled()
+    moved = {it["id"]: [field(it["before"]), field(it["after"])] for it in said["groups"] if set(it["before"]) != set(it["after"])}
+    changes = sum(it["primary_before"] != it["primary_after"] for it in said["groups"])
+    figures, leads = page.figures(), page.browser.text("#primaries")
+    return first(
+        unlike((figures["moved"], figures["anew"]), (str(said["moved"]), str(said["copies"]))), unlike(groups_shown(page), moved, "groups:"),
+        None if changes > 1 and leads == f"{changes} primaries change." else f"{leads} {changes} {said['answer']}",
+    )
+
+
+@with_folder
 def more_upmap_items_than_are_taken_at_once(page, folder):
     """A pool with more than 1,024 pairs: set part by part in a copy, as crushplan does."""
     today, program = Today(3, 4, 4, 7), page.program
@@ -325,5 +357,5 @@ def a_text_of_straw2_gets_its_mark(page):
 def cases():
     return (
         a_whole_cluster_of_today_is_answered_as_crushplan_does, groups_that_lie_otherwise_make_every_answer_unknown, a_folder_without_pgs_is_compared_by_device, weight_sets_are_a_text_each,
-        more_upmap_items_than_are_taken_at_once, a_tree_over_the_most_buckets, the_folder_of_fetch_is_dropped_as_it_is, what_stops_in_stretch_mode_is_unknown, a_text_of_straw2_gets_its_mark,
+        upmap_lines_with_set_primaries_are_tried, more_upmap_items_than_are_taken_at_once, a_tree_over_the_most_buckets, the_folder_of_fetch_is_dropped_as_it_is, what_stops_in_stretch_mode_is_unknown, a_text_of_straw2_gets_its_mark,
     )
