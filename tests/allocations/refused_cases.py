@@ -3,7 +3,7 @@ stored run, which then has its own replies whatever came before. And what such r
 import random
 
 from model import messages
-from model.maps import tiny, with_rule
+from model.maps import straw2_tiny, tiny, with_rule
 from program import cache_cases
 from model.definition import JEWEL, declaring, played
 from model.messages import NO_MEMORY, body, exceptions_of, short, shown_of, stored_run
@@ -32,12 +32,13 @@ def two_tenants():
 
 
 def maps():
-    """An import, its repeat, a test, a second import, a refused one, and tests on both versions;
-    and the same again for a tenant of the same name."""
+    """An import, its repeat, a test, a second import, a refused one, tests on both versions, and one
+    with a straw2 bucket; and the same again for a tenant of the same name."""
     first, second = messages.import_of(tiny(3), "m1"), messages.import_of(tiny(5), "m2")
+    straw2 = messages.import_of(straw2_tiny(7), "m4")
     calls = [
         b"PUT /t/a", first, first, messages.test_of(x=7), second, messages.import_of(tiny(4), "m1"), messages.import_of("", "m3"),
-        messages.test_of(), messages.test_of(version=1), messages.test_of(version=3), second, b"GET /t/a",
+        messages.test_of(), messages.test_of(version=1), messages.test_of(version=3), second, b"GET /t/a", straw2, straw2, messages.test_of(x=9), b"GET /t/a/maps/3",
         b"DELETE /t/a", b"PUT /t/a", messages.test_of(), second, first, messages.test_of(version=1), b"GET /t/a",
     ]
     return script_of(calls)

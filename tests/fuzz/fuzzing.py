@@ -48,7 +48,7 @@ def sessions():
     """The scripts of the cases and of the examples, as lists of lines of the tenant a; long lines
     and long scripts are left out."""
     found = [path.read_bytes().splitlines() for path in sorted((HERE.parent.parent / "examples").glob("*.script"))]
-    found += [[line for line, _ in pairs] for module in (map_cases, pool_cases, report_cases, exception_cases, straw2_cases) for _, pairs in module.cases()]
+    found += [[line for line, _ in pairs] for module in (map_cases, pool_cases, report_cases, exception_cases) for _, pairs in module.cases()]
     found += [[b"PUT /t/a", *(b"POST /t/a/pick " + sent for _, sent, _ in hostile_cases.BODIES)], exceptions(), [line for line, _ in hostile_cases.exceptions()]]
     return [lines for lines in ([it for it in lines if 0 < len(it) <= LONGEST] for lines in found) if 0 < len(lines) <= 120]
 

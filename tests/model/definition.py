@@ -1,6 +1,6 @@
 """The definition's reply to a request, and what its tenant has afterwards, for requests on the few
 maps that are named here: those of one device in one bucket, with the rule 0 or 1, of which some
-declare two devices more, and one that crushtool wrote. Written from the rules of requests; hashes
+declare two devices more and some have a straw2 bucket, and one that crushtool wrote. Written from the rules of requests; hashes
 are those of crush.py."""
 import collections
 import json
@@ -39,6 +39,7 @@ def declaring(device, rule=0):
 # the texts that are imported, each with its map
 TEXTS = {maps.with_rule(rule, maps.tiny(device)): Map(device, rule, canonical_of(device, rule), (device,)) for device in range(300) for rule in range(2)}
 TEXTS |= {declaring(device, rule): Map(device, rule, canonical(declaring(device, rule)), tuple(range(DECLARED))) for device in range(DECLARED) for rule in range(2)}
+TEXTS |= {maps.straw2_tiny(device): Map(device, 0, canonical(maps.straw2_tiny(device)), (device,)) for device in range(10)}
 TEXTS[JEWEL] = Map(0, 0, canonical(JEWEL), (0,))
 
 

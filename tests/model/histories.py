@@ -91,7 +91,7 @@ def changing(drawn, number):
     device, pool = drawn.randrange(DEVICES), 1 + drawn.randrange(POOLS)
     kind = drawn.randrange(11)
     if kind < 2:
-        return messages.import_of(drawn.choice((maps.tiny, declaring, declaring))(device), number)
+        return messages.import_of(drawn.choice((maps.tiny, maps.straw2_tiny, declaring, declaring))(device), number)
     if kind > 8:
         pairs = ((drawn.randrange(3), *drawn.sample(range(DECLARED), 2)) for _ in range(drawn.choice((0, 1, 2, 5, 40))))
         return messages.exceptions_of(number, *pairs, pool=pool)

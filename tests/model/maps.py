@@ -171,6 +171,11 @@ def marked(text):
     return f"{MARK}\n{text}"
 
 
+def straw2_tiny(device=0):
+    """The map of one device with a straw2 bucket."""
+    return marked(with_line(tiny(device), 13, " alg straw2"))
+
+
 def straw2_of(entries):
     """A marked text of a device for each entry, all in one straw2 bucket with these weights' texts,
     and the rule of the map of one device."""

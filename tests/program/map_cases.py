@@ -4,6 +4,7 @@ import pathlib
 
 from model.maps import canonical_tiny, hosts, marked, never_picked, tiny, with_line
 from model.messages import BAD, EXISTS, LIMIT, METHOD, NO_PATH, NO_RULE, NO_TENANT, NO_VERSION, REUSED, START, TOO_LARGE, dropped, import_of, imported, made, of_b, post, refused, summary, test_of, tested, version_of
+from program import straw2_cases
 
 HERE = pathlib.Path(__file__).resolve().parent
 
@@ -302,3 +303,5 @@ def version_limit():
 def cases():
     for make in (receipts, repeats, tenants_apart, refusals, rule_tests, canonical_texts, texts_as_they_are_read, version_limit):
         yield make.__name__, make()
+    for name, pairs in straw2_cases.cases():
+        yield f"straw2_{name}", pairs

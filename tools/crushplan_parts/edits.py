@@ -33,26 +33,35 @@ def set_in_bucket(map_, bucket, item, weight, with_sets, with_shadows):
         for row in own.rows.get(bucket.id, ()) if with_sets else ():
             row[place_of(bucket, item)] = weight
     set_weight(map_, bucket.id, bucket.weight(), False, with_shadows)
-    for own in map_.weight_sets.values():
-        raise_sums(map_, own, bucket.id)
 
 
 def place_of(bucket, item):
     return next(place for place, (it, _) in enumerate(bucket.items) if it == item)
 
 
-def raise_sums(map_, own, id_):
-    """Gives a bucket the sums of its rows of a weight set in the rows above. A straw2 bucket without rows gets some, of
-    its own weights."""
-    sums = [sum(row) for row in own.rows.get(id_, ())]
-    for above in map_.buckets.values() if sums else ():
-        if not any(it == id_ for it, _ in above.items):
-            continue
-        if not own.rows.get(above.id) and above.alg == "straw2":
-            own.rows[above.id] = [[weight for _, weight in above.items] for _ in sums]
-        for row, total in zip(own.rows.get(above.id, ()), sums):
-            row[place_of(above, id_)] = total
-        raise_sums(map_, own, above.id)
+def make_whole(map_):
+    """Gives each straw2 bucket that lacks rows of a weight set some of its own weights, and in all rows each bucket the
+    sums of its own: Ceph does so at each change of a weight."""
+    for own in map_.weight_sets.values():
+        positions = max(map(len, own.rows.values()), default=0)
+        for it in map_.buckets.values() if positions else ():
+            if it.alg == "straw2" and not own.rows.get(it.id):
+                own.rows[it.id] = [[weight for _, weight in it.items] for _ in range(positions)]
+        done = set()
+        for id_ in list(own.rows):
+            sum_up(map_, own.rows, id_, done)
+
+
+def sum_up(map_, rows, id_, done):
+    """Gives the buckets in a bucket's rows the sums of their own, from below."""
+    if id_ in done or id_ not in map_.buckets:
+        return
+    done.add(id_)
+    for place, (item, _) in enumerate(map_.buckets[id_].items):
+        if item in map_.buckets:
+            sum_up(map_, rows, item, done)
+            for row, below in zip(rows.get(id_, ()), rows.get(item, ())):
+                row[place] = sum(below)
 
 
 def remove(map_, device):
@@ -78,6 +87,7 @@ def weighed(map_, devices, weight=0):
     found = copied(map_)
     for it in devices:
         set_weight(found, it, weight)
+    make_whole(found)
     return found
 
 
@@ -86,5 +96,6 @@ def purged(map_, devices):
     found = copied(map_)
     for it in devices:
         remove(found, it)
+    make_whole(found)
     rebuilt(found, found.shadows())
     return found

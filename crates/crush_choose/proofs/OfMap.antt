@@ -16,7 +16,8 @@ use Rattle.crush_map.specs.declared.draft.Device.{Device}
 use Rattle.crush_map.specs.declared.draft.Step.{Step}
 use Rattle.crush_types.specs.declared.ItemId.{ItemId}
 use Rattle.crush_bucket.specs.Laws.{PicksBelow}
-use Rattle.crush_bucket.specs.Tables.{TypedBucket, TablesView, IsDevice, bucket_numbered, no_bucket, pick_at, size_at, tables_of, typed_bucket}
+use Rattle.crush_bucket.specs.declared.typed.TypedBucket.{TypedBucket}
+use Rattle.crush_bucket.specs.Tables.{TablesView, IsDevice, bucket_numbered, no_bucket, pick_at, size_at, tables_of, typed_bucket}
 use Rattle.crush_choose.specs.Trace.{rule_trace}
 use Rattle.crush_choose.proofs.Staying.{eq_of}
 use Rattle.crush_choose.proofs.Items.{ArePicks, NumberIs, trace_are}

@@ -12,8 +12,8 @@ pub fn a_straw2_bucket_picks_by_its_items()
     ensures place { (items : List WeightedItem) (x r : ℕ) → straw2_pick items x r ≡ item_at items (straw2_place items x r) }
 {}
 
-/// The place of a pick is that of the item that arrives first: none arrives sooner, and those before
-/// it arrive later. No other place is.
+/// The place of a pick is that of the item that arrives first: none arrives sooner, and those
+/// before it arrive later. No other place is.
 pub fn a_straw2_pick_arrives_first()
     ensures is { (items : List WeightedItem) (x r : ℕ) → 0 < length items → IsFirst items x r (straw2_place items x r) }
     ensures only { (items : List WeightedItem) (x r place : ℕ) → IsFirst items x r place → straw2_place items x r ≡ place }

@@ -1,10 +1,10 @@
 //! The picks of tree buckets.
 
-ghost use Rattle.std.specs.Prelude.{◌≡◌, ◌<◌, ◌≤◌, ◌+◌, ◌*◌, ◌^◌, ◌++◌, IfOk, length};
+ghost use Rattle.std.specs.Prelude.{◌≡◌, ◌<◌, ◌+◌, ◌*◌, ◌^◌, ◌++◌, IfOk, length};
 ghost use Rattle.crush_kinds.specs.Bucket.{IsItemOf, total_weight};
 ghost use Rattle.crush_kinds.specs.Kinds.{height_of, place_within, tree_pick};
 ghost use Rattle.crush_kinds.specs.Private.Walks.{tree_height, IsNode, GoesOn, IsPickAt, Keeps};
-ghost use Rattle.crush_kinds.specs.Private.Kept.{AreNodes, HasNodes, node_weights};
+ghost use Rattle.crush_kinds.specs.Private.Kept.{AreNodes, node_weights};
 
 use crate::any::AnyBucket;
 use crate::descent::{child, down, last_down, places, two_down};

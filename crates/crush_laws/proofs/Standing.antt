@@ -1,7 +1,6 @@
 -- Where the buckets of a map stand in its tables.
-use Rattle.std.proofs.Common.{◌≡◌, ℕ, ℤ, zero, suc, ◌+◌, ◌<◌, List, [], ◌∷◌, length, map, slice_index_or, Bool, true, false, Option, Some, None, Contains, refl, ap, sym, ◌∙◌, arith}
+use Rattle.std.proofs.Common.{◌≡◌, ℕ, ℤ, suc, ◌+◌, ◌<◌, List, [], ◌∷◌, length, map, slice_index_or, Bool, true, false, Some, Contains, refl, ap, sym, ◌∙◌, arith}
 use Rattle.std.specs.List.{position_from, slice_get}
-use Rattle.std.specs.Ordering.{int_eq}
 use Rattle.std.proofs.lemmas.Bool.Decides.{Decides-int_eq}
 use Rattle.std.proofs.lemmas.List.{get_or-map, length-map}
 use Rattle.std.proofs.lemmas.Option.{slice_get_read}
@@ -9,7 +8,8 @@ use Rattle.crush_types.specs.declared.ItemId.{ItemId}
 use Rattle.crush_map.specs.declared.draft.Bucket.{Bucket}
 use Rattle.crush_map.specs.Map.{Map}
 use Rattle.crush_map.specs.Sound.{IsEachOnce}
-use Rattle.crush_bucket.specs.Tables.{TypedBucket, tables_of, typed_bucket, no_bucket, bucket_at, type_at, bucket_numbered}
+use Rattle.crush_bucket.specs.declared.typed.TypedBucket.{TypedBucket}
+use Rattle.crush_bucket.specs.Tables.{tables_of, typed_bucket, no_bucket, bucket_at, type_at, bucket_numbered}
 use Rattle.crush_bucket.proofs.Numbered.{has_that_id, position_some, same_id}
 use Rattle.crush_bucket.proofs.Validity.{HasSoundBuckets}
 

@@ -1,7 +1,6 @@
 -- Each item of a map has one tree.
-use Rattle.std.proofs.Common.{◌≡◌, ℕ, ℤ, pos, negsuc, zero, suc, ◌+◌, ◌<◌, ◌==◌, List, [], ◌∷◌, length, map, take, slice_index_or, Bool, true, false, Option, Some, None, Contains, refl, ap, sym, ◌∙◌, arith, ◌⊎◌, inl, inr}
-use Rattle.std.specs.List.{list_any, slice_get}
-use Rattle.std.specs.Option.{IfSome}
+use Rattle.std.proofs.Common.{◌≡◌, ℕ, ℤ, pos, negsuc, zero, suc, ◌<◌, List, [], ◌∷◌, length, take, slice_index_or, true, Some, None, Contains, refl, ap, sym, ◌∙◌, arith, ◌⊎◌, inl, inr}
+use Rattle.std.specs.List.{slice_get}
 use Rattle.std.proofs.lemmas.List.{get_or-take, get_or_default, length-take-le, take_all}
 use Rattle.std.proofs.lemmas.List.Elements.{Contains-get_or}
 use Rattle.std.proofs.lemmas.List.Folds.{Any-from_list_any}
@@ -18,7 +17,7 @@ use Rattle.crush_bucket.specs.Tables.{tables_of, bucket_numbered}
 use Rattle.crush_bucket.proofs.Numbered.{none_of_device}
 use Rattle.crush_bucket.proofs.Validity.{sound_at, is_laid, no_declaration}
 use Rattle.crush_laws.specs.MapTree.{Tree, device, bucket, Branches, no_branches, branch, id_of, items_of, IsTreeOf, AreTreesOf, IsTreeAt}
-use Rattle.crush_laws.proofs.Standing.{HasLaws, StandsAt, stands_at, same_item, bucket_ids, id_at}
+use Rattle.crush_laws.proofs.Standing.{HasLaws, stands_at, same_item, bucket_ids, id_at}
 
 -- ---- there is one
 

@@ -1,5 +1,5 @@
 -- A walk by the numbers of buckets ends where the walk down the tree ends.
-use Rattle.std.proofs.Common.{◌≡◌, ℕ, ℤ, pos, zero, suc, ◌<◌, ◌==◌, List, [], ◌∷◌, length, slice_index_or, Bool, true, false, Option, Some, None, Contains, if◌then◌else◌, refl, ap, sym, ◌∙◌, arith}
+use Rattle.std.proofs.Common.{◌≡◌, ℕ, pos, zero, suc, ◌<◌, ◌==◌, List, ◌∷◌, length, Bool, true, false, Some, None, Contains, if◌then◌else◌, refl, ap, sym, ◌∙◌, arith}
 use Rattle.std.specs.Ordering.{int_eq}
 use Rattle.std.proofs.lemmas.Bool.Decides.{Decides-int_eq, nat_tests}
 use Rattle.crush_types.specs.declared.ItemId.{ItemId}
@@ -7,9 +7,9 @@ use Rattle.crush_types.specs.declared.Weight.{Weight}
 use Rattle.crush_types.specs.declared.Kind.{Kind}
 use Rattle.crush_map.specs.declared.draft.Bucket.{Bucket}
 use Rattle.crush_map.specs.Map.{Map}
-use Rattle.crush_kinds.specs.Bucket.{WeightedItem, BucketView, IsItemOf, item_at}
+use Rattle.crush_kinds.specs.Bucket.{WeightedItem, BucketView, IsItemOf}
 use Rattle.crush_kinds.specs.Pick.{pick}
-use Rattle.crush_bucket.specs.Tables.{TablesView, tables_of, bucket_at, type_at, pick_at, bucket_numbered}
+use Rattle.crush_bucket.specs.Tables.{tables_of, bucket_at, pick_at, bucket_numbered}
 use Rattle.crush_bucket.proofs.Numbered.{none_of_device, same_id}
 use Rattle.crush_bucket.proofs.Validity.{is_laid}
 use Rattle.crush_select.specs.declared.walk.Reached.{Reached}
@@ -18,7 +18,7 @@ use Rattle.crush_select.specs.Reach.{at_item, reach}
 use Rattle.crush_select.specs.Laws.{reach_after_pick}
 use Rattle.crush_laws.specs.MapTree.{Tree, device, bucket, Branches, no_branches, branch, id_of, type_of, items_of, IsTreeOf, AreTreesOf}
 use Rattle.crush_laws.specs.Walk.{walk, walk_into}
-use Rattle.crush_laws.proofs.Standing.{HasLaws, StandsAt, stands_at, same_item}
+use Rattle.crush_laws.proofs.Standing.{HasLaws, stands_at, same_item}
 
 -- the attempt at a bucket, by its number
 abbrev pub at_number : Map → (BucketView → ℕ) → ℕ → ℕ

@@ -9,8 +9,8 @@ pub fn reciprocals_are_rounded_up()
     ensures { (k : ℕ) → k < 129 → slice_index RECIPROCALS k ≡ (2 ^ 48 * 128 + (127 + k)) / (128 + k) }
 {}
 
-/// A greater draw has no longer delay, but for the greatest of all: its delay is longer than that of
-/// the draw before it, and no longer than the others.
+/// A greater draw has no longer delay, but for the greatest of all: its delay is longer than that
+/// of the draw before it, and no longer than the others.
 pub fn a_greater_draw_is_no_later()
     ensures falls { (u v : ℕ) → u ≤ v → v < 2 ^ 16 - 1 → delay v ≤ delay u }
     ensures greatest { (u : ℕ) → u ≤ 65533 → delay 65535 ≤ delay u }

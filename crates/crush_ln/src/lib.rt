@@ -1,8 +1,8 @@
 //! Ceph's logarithm of a draw, in fixed point, by its tables, and how late an item with such a draw
 //! arrives.
 //!
-//! Sources: Ceph's `src/crush/mapper.c` (`crush_ln`) and `src/crush/crush_ln_table.h`. The functions
-//! allocate nothing and can't fail.
+//! Sources: Ceph's `src/crush/mapper.c` (`crush_ln`) and `src/crush/crush_ln_table.h`. The
+//! functions allocate nothing and can't fail.
 #![tactic(auto)]
 
 ghost use Rattle.std.specs.Prelude.{◌≡◌, ◌<◌, ◌≤◌, ◌+◌, ◌*◌, ◌^◌, slice_index};
@@ -39,8 +39,8 @@ fn rest_log(place: usize) -> u64
     tables::REST_LOGS[place]
 }
 
-/// Returns a number above 0, doubled until it is at least 2^15, after its exponent: 15, less one for
-/// each time.
+/// Returns a number above 0, doubled until it is at least 2^15, after its exponent: 15, less one
+/// for each time.
 #[inline(always)]
 fn scaled(number: u32) -> (u32, u32)
     requires some { 0 < number }

@@ -156,8 +156,8 @@ items_fault known before (item ∷ items) = first_of (
     ∷ items_fault known (with_id before item.0.0) items
     ∷ [])
 
--- whether an item's weight is above STRAW2_WEIGHT_LIMIT: Ceph takes a weight of a straw2 bucket as a
--- signed number of 32 bits
+-- whether an item's weight is above STRAW2_WEIGHT_LIMIT: Ceph takes a weight of a straw2 bucket
+-- as a signed number of 32 bits
 abbrev pub is_heavy : ItemId × Weight → Bool
 is_heavy item = nat_lt STRAW2_WEIGHT_LIMIT item.1.0
 

@@ -337,8 +337,8 @@ fn is_bucket_id(id: ItemId) -> bool
     id.0 < 0 && id.0.unsigned_abs() - 1 <= NUMBER_LIMIT
 }
 
-/// Returns whether the weights of a bucket of the kind `alg` have too great a sum, or one of them is
-/// too great for that kind.
+/// Returns whether the weights of a bucket of the kind `alg` have too great a sum, or one of them
+/// is too great for that kind.
 fn is_too_heavy(alg: Kind, items: &[(ItemId, Weight)]) -> bool
     requires { length items.now ≤ ITEM_LIMIT }
     ensures { result ≡ spec.is_too_heavy alg items.now }

@@ -14,7 +14,7 @@ ghost use Rattle.crush_types.specs.declared.limits.TheConstants.{ID_COUNT};
 ghost use Rattle.tenant_messages.specs.Reply.{reply};
 
 use crate::limits::ATTEMPT_LIMIT;
-use crush_kinds::{AnyBucket, Perm, Picker};
+use crush_kinds::{AnyBucket, Perm};
 use crush_map::limits::{ID_COUNT, ITEM_LIMIT, NUMBER_LIMIT, TOTAL_WEIGHT_LIMIT};
 use crush_map::{ItemId, Kind, Weight, has_equal_weights, total_weight};
 use serde_json::{Value, json};

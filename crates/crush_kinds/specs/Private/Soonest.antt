@@ -22,8 +22,8 @@ pub record IsOffered (old : Soonest) (place arrives : ℕ) (new : Soonest) : Typ
   pub has_limits : HasLimits new
   pub either : ((time old ≤ arrives) × (new.place ≡ old.place) × (time new ≡ time old)) ⊎ ((arrives < time old) × (new.place ≡ place) × (time new ≡ arrives))
 
--- s is the best of the first n items: none of them arrives sooner, and those before it arrive later;
--- of none it is the first place, at a time later than any
+-- s is the best of the first n items: none of them arrives sooner, and those before it arrive
+-- later; of none it is the first place, at a time later than any
 pub record IsBest (items : List WeightedItem) (x r n : ℕ) (s : Soonest) : Type 0 where
   pub has_limits : HasLimits s
   pub soonest : (j : ℕ) → j < n → time s ≤ arrival x r (at items j)

@@ -1,9 +1,6 @@
-use Rattle.std.proofs.Common.{◌≡◌, ◌+◌, ℕ}
-use Rattle.crush_kinds.specs.Bucket.{BucketView}
-use Rattle.crush_map.specs.Map.{Map, IsMap}
-use Rattle.crush_laws.specs.MapTree.{Tree, IsTreeAt}
-use Rattle.crush_laws.specs.Walk.{added, walk}
-use Rattle.crush_laws.proofs.Walking.{at_number, by_number, walk_by_number}
+use Rattle.std.proofs.Common.{◌+◌}
+use Rattle.crush_laws.specs.Walk.{added}
+use Rattle.crush_laws.proofs.Walking.{at_number, walk_by_number}
 use Rattle.crush_laws.proofs.walks_go_down_the_tree.Goals as goal
 
 pub returns-clause-any : goal.returns-clause-any
