@@ -221,7 +221,7 @@ def weight_sets_are_a_text_each(page, folder):
     why = next(it["why"] for it in said["pools"] if it["pool"] == 4)
     known = json.loads(page.browser.run("return localStorage.getItem(`crushcalc.tenant.${arguments[0]}`)", tenant))
     found = first(
-        None if f"pool coded (4) isn't computed: {why}" in note else note, unlike(sorted(known["sides"]), ["1", "2"], "pools with a text of their own:"),
+        None if f"pool coded (4) isn't computed: {why}" in note else note, unlike(known["sides"], {"1": 1, "2": 2, "3": 1}, "pools that have another text:"), unlike(known["texts"], 3, "texts:"),
         same_usage(page, program, folder), same_drain(page, program, folder, ["host3"]),
     )
     # with its name all of it is deleted
