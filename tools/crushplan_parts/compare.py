@@ -10,7 +10,10 @@ from .output import Answer, Table, devices_text, sized
 from .placing import Note
 from .read_dump import read_dump
 from .read_text import read_text
+from .pgs import entries_said
 from .reports import COPY, listed, used_said
+from .run import Usage
+from .settled import Placement, first_of, led
 from .shares import Shares, hundredths, rounded
 from .stages import Stages
 from .summary import PoolChange, bytes_anew, gains, ratio_said, total, whole, written_anew
@@ -46,25 +49,59 @@ class NewMap:
         self.plan.notes.append(Note(kind, f"pool {pool.name} ({pool.id}) isn't computed on {self.map.file}: {why}", pools=[pool.id]))
 
 
+    def changes(self):
+        """Returns what moves in each pool that is computed on both maps."""
+        plan, pools = self.plan, list(self.pools.values())
+        if not pools:
+            return []
+        run = plan.run(self.pools)
+        asked = {it.id: run.usage(it.id) for it in pools}
+        plan.answer(run)
+        before = {it.id: run.counted(asked[it.id]) for it in pools}
+        plan.doubt_usage(before)
+        stages = Stages(plan, self.pools)
+        moves = stages.set_map(self.map, self.texts, True)
+        return [Compared(plan, self.map, it, before[it.id], stages.usages[it.id], moves[it.id]) for it in pools]
+
+    def changes_by_word(self):
+        """Returns what moves in the pools that can be computed on the new map alone, as those of straw buckets of which
+        it makes straw2 ones: from where the cluster itself says that their groups lie."""
+        plan, own = self.plan, {}
+        for id_ in list(plan.left_out):
+            pool = plan.cluster.pools[id_]
+            if plan.cluster.groups is not None and plan.map.rules.get(pool.rule) and entries_said(plan, pool) is not None and not pool_fault(self.map, pool, plan.cluster.described):
+                own[id_] = pool
+        texts = plan.accepted(self.map, own, lambda *_: None)
+        if not own:
+            return []
+        for it in own.values():
+            plan.take_in(it)
+        stages = Stages(plan, own, first=texts)
+        after = stages.set_states([], {id_: range(it.pg_num) for id_, it in own.items()})[-1]
+        return [self.by_word(it, after[it.id]) for it in own.values()]
+
+    def by_word(self, pool, after):
+        said = self.plan.cluster.groups[pool.id]
+        before = Usage(entries_said(self.plan, pool), {})
+        entries = Usage({}, {}).after([(Placement([], [], None), it) for it in after.values()])
+        moves = {group: (said[group].up, it.up) for group, it in after.items() if said[group].up != it.up}
+        return Compared(self.plan, self.map, pool, before, entries, moves)
+
+
 def compare(plan, asked):
     """Answers what a changed map moves."""
     new = NewMap(plan, read_new(plan, asked.new))
-    pools = list(new.pools.values())
-    run = plan.run([it.id for it in pools])
-    usages = {it.id: run.usage(it.id) for it in pools}
-    plan.answer(run)
-    before = {it.id: run.counted(usages[it.id]) for it in pools}
-    plan.doubt_usage(before)
-    stages = Stages(plan, [it.id for it in pools])
-    moves = stages.set_map(new.map, new.texts, True) if pools else {}
-    changes = [Compared(plan, new.map, it, before[it.id], stages.usages[it.id], moves[it.id]) for it in pools]
+    changes = new.changes() + new.changes_by_word()
+    if not changes:
+        return nothing(new)
+    pools = [it.pool for it in changes]
     moved, copies = sum(len(it.moves) for it in changes), sum(it.copies for it in changes)
     bytes_ = total(it.bytes for it in changes)
     missing, before = sum(it.missing for it in changes), sum(it.missing_before for it in changes)
     least = sum((it.least for it in changes), fractions.Fraction(0))
     unknown = bool(new.left_out or plan.left_out)
     full = Filled(plan, new.map, changes)
-    status = 1 if missing or full.past["backfillfull_ratio"] else 2 if unknown or not pools else 0
+    status = 1 if missing or full.past["backfillfull_ratio"] else 2 if unknown else 0
     sentence = f"{counted(moved, 'group')} {'moves' if moved == 1 else 'move'}, and {counted(copies, *COPY)} {'is' if copies == 1 else 'are'} written anew" + (f"; {counted(missing, *COPY)} {'has' if missing == 1 else 'have'} no device{' (as many as before)' if missing == before else f' ({before:,} before)' if before else ''}" if missing else "") + (f"; {full.past_text('backfillfull_ratio')}, past the backfill-full ratio" if full.past["backfillfull_ratio"] else "") + ("; not all can be computed" if unknown else "") + "."
     rows = [
         ("groups that move", f"{moved:,} of {sum(it.pg_num for it in pools):,}"), ("copies that are written anew", f"{copies:,}" + (f", {sized(bytes_)}" if bytes_ is not None else "")),
@@ -85,17 +122,24 @@ def compare(plan, asked):
         "pools": [it.said() for it in changes], "hosts": [{"name": name, "lost": lost, "gained": gained} for name, lost, gained in hosts],
     }  # fmt: skip
     heads = ["pool", "group", "id", "before", "after", "primary_before", "primary_after", "copies"]
-    own = [heads] + [[pool.id, group, pool.group_name(group), listed(old), listed(now), primary(old), primary(now), count] for pool, group, old, now, count in groups]
+    own = [heads] + [[pool.id, group, pool.group_name(group), listed(old), listed(now), primary(plan, pool, group, old), primary(plan, pool, group, now), count] for pool, group, old, now, count in groups]
     if asked.groups:
-        fields["groups"] = [{"pool": pool.id, "group": group, "id": pool.group_name(group), "before": old, "after": now, "primary_before": primary(old), "primary_after": primary(now), "copies": count} for pool, group, old, now, count in groups]
+        fields["groups"] = [{"pool": pool.id, "group": group, "id": pool.group_name(group), "before": old, "after": now, "primary_before": primary(plan, pool, group, old), "primary_after": primary(plan, pool, group, now), "copies": count} for pool, group, old, now, count in groups]
     else:
         own = [["host", "lost", "gained"], *hosts]
     return Answer(status, sentence, fields, blocks, own)
 
 
-def primary(up):
-    """Returns the primary of an up list, its first device, or None."""
-    return next((it for it in up if it is not None), None)
+def nothing(new):
+    """Returns the answer where no pool can be computed."""
+    fields = dict.fromkeys(("moved", "copies", "bytes", "least", "missing_copies", "missing_copies_before", "fullest"))
+    fields = {"new": new.map.file, **fields, "past_nearfull": [], "past_backfillfull": [], "pools": [], "hosts": []}
+    return Answer(2, "unknown: no pool can be computed.", fields, [], [["host", "lost", "gained"]])
+
+
+def primary(plan, pool, group, up):
+    """Returns the primary of an up list: the first device, but for affinities, which change no order of an erasure pool."""
+    return led(pool, group, up, plan.exceptions.affinity)[1] if pool.kind == "erasure" else first_of(up)
 
 
 class Compared:

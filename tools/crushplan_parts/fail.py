@@ -1,11 +1,19 @@
 """`crushplan fail`: hosts, racks or devices that go down, and later out."""
 from .changing import Start, pool_changes, short_now
 from .faults import Fault, counted, some
-from .output import Answer, Progress, Table, devices_text, shown, sized
+from .output import Answer, Progress, Sized, Table, devices_text, shown, sized
 from .reports import COPY, Stay, groups_rows, groups_table, listed, pools_table, status_of, summary_table, usage_rows, usage_table, verdict, warn_of_flags, warn_of_room
 from .shares import hundredths
 from .stages import Stages, states_after
 from .summary import Summary
+
+UNKNOWN = 2
+
+
+def stops(pool, copies):
+    """Returns whether a group's I/O stops with so many copies, as far as is known: in stretch mode it also counts where
+    they are, and Ceph changes min_size by itself."""
+    return copies < pool.min_size and not pool.stretched
 
 
 class Down:
@@ -19,19 +27,19 @@ class Down:
             for group, copies in sorted(short.items()):
                 self.rows.append((pool, group, lists.get(id_, {}).get(group) or start.all_lists[id_][group], copies))
         self.short = len(self.rows)
-        self.stopped = sum(copies < pool.min_size for pool, _, _, copies in self.rows)
+        self.stopped = sum(stops(pool, copies) for pool, _, _, copies in self.rows)
 
     def by_pool(self):
         found = {}
         for pool, _, _, copies in self.rows:
             own = found.setdefault(pool.id, [pool, 0, 0])
-            own[1], own[2] = own[1] + 1, own[2] + (copies < pool.min_size)
+            own[1], own[2] = own[1] + 1, own[2] + stops(pool, copies)
         return list(found.values())
 
     def said(self, with_groups):
         found = {"below_min_size": self.stopped, "short": self.short, "pools": [{"pool": pool.id, "name": pool.name, "size": pool.size, "min_size": pool.min_size, "short": short, "below_min_size": stopped} for pool, short, stopped in self.by_pool()]}
         if with_groups:
-            found["groups"] = [{"pool": pool.id, "group": group, "id": pool.group_name(group), "up": it.up, "primary": it.primary, "copies": copies, "below_min_size": copies < pool.min_size} for pool, group, it, copies in self.rows]
+            found["groups"] = [{"pool": pool.id, "group": group, "id": pool.group_name(group), "up": it.up, "primary": it.primary, "copies": copies, "below_min_size": stops(pool, copies)} for pool, group, it, copies in self.rows]
         return found
 
     def table(self, groups):
@@ -46,7 +54,7 @@ class Down:
         return Table(("pool", "id", "size", "min_size", "short", "below min_size"), rows) if len(rows) > 1 else None
 
     def groups_table(self):
-        rows = [(pool.group_name(group), devices_text(it.up), it.primary, copies, "yes" if copies < pool.min_size else "") for pool, group, it, copies in self.rows]
+        rows = [(pool.group_name(group), devices_text(it.up), it.primary, copies, "yes" if stops(pool, copies) else "?" if pool.stretched else "") for pool, group, it, copies in self.rows]
         return Table(("group", "up", "primary", "copies", "I/O stops"), rows, "Groups a copy short while they are down:") if rows else None
 
 
@@ -77,12 +85,13 @@ def fail(plan, asked):
     stay = Stay(plan, start, devices, it.summary.changes)
     warn_of_room(plan, it.summary)
     warn_of_outs(plan, asked.names, devices)
-    status = status_of(plan, it.summary, stay, it.down.stopped)
+    stretched = plan.stretched(devices)
+    status = status_of(plan, it.summary, stay, it.down.stopped) or (UNKNOWN if stretched else 0)
     fields = {"devices": devices, "down": it.down.said(asked.groups), "out": it.summary.said(asked.groups), "stay": stay.said()}
     blocks = [it.down.table(it.summary.groups) if plan.pools else None, it.down.pools_table(), summary_table(plan, it.summary, stay, "Once they are out:", devices), pools_table(it.summary), usage_table(plan, it.summary, asked.by)]
     if asked.groups:
         blocks += [it.down.groups_table(), groups_table(it.summary.moves)]
-    return Answer(status, verdict(it.summary, stay, status, it.down.stopped), fields, blocks, rows_of(plan, it) if asked.groups else usage_rows(it.summary))
+    return Answer(status, verdict(it.summary, stay, status, it.down.stopped, stretched), fields, blocks, rows_of(plan, it) if asked.groups else usage_rows(it.summary))
 
 
 def rows_of(plan, it):
@@ -123,10 +132,50 @@ def warn_of_outs(plan, names, devices):
         plan.cluster.warnings.append(f"Ceph marks out by itself no whole rack, nor what is above racks (mon_osd_down_out_subtree_limit, unless it was set): {some(wide)}")
 
 
+class Each:
+    """A bucket of a type that fails: its item, what that does, and what of it isn't computed."""
+
+    def __init__(self, plan, start, item, devices):
+        self.item, self.name = item, plan.map.name_of(item)
+        self.failure = Failure(plan, start, devices, quick=True)
+        self.stay = Stay(plan, start, devices, self.failure.summary.changes)
+        self.stretched = plan.stretched(devices)
+        stopped = self.failure.down.stopped
+        self.status = status_of(plan, self.failure.summary, self.stay, stopped) or (UNKNOWN if self.stretched else 0)
+        # nothing of it was computed where no computed pool can have groups on its devices, and another has
+        self.is_blank = self.stay.is_unknown() and not plan.touched(devices)
+
+    def order(self):
+        """Returns what is least for the worst."""
+        summary = self.failure.summary
+        return (-self.failure.down.stopped, -summary.missing, -len(summary.past["backfillfull_ratio"]), -summary.copies, self.is_blank, self.name)
+
+    def is_in_part(self):
+        return self.stay.is_unknown() or bool(self.stretched)
+
+    def said(self):
+        it, summary = self.failure, self.failure.summary
+        said = summary.said(False)
+        found = {
+            "below_min_size": it.down.stopped, "short_down": it.down.short, "short_groups": summary.short, "missing_copies": summary.missing, "too_full": len(summary.past["backfillfull_ratio"]),
+            "moved": len(summary.moves), "can_move": summary.can_move, "copies": summary.copies, "bytes": said["bytes"],
+        }  # fmt: skip
+        if self.is_blank:
+            found = dict.fromkeys(found)
+        return {"name": self.name, "devices": len(it.devices), **found, "status": self.status, "fullest": None if self.is_blank else said["fullest"]}
+
+    def row(self):
+        """Returns its line of the table; what isn't known is a question mark."""
+        it = self.said()
+        if self.is_blank:
+            return [it["name"], it["devices"], *[Sized("?")] * 7, "?"]
+        stops = Sized("?") if self.stretched and not it["below_min_size"] else it["below_min_size"]
+        return [it["name"], it["devices"], stops, it["short_down"], it["missing_copies"], it["too_full"], it["moved"], it["copies"], sized(it["bytes"]), each_fullest(it)]
+
+
 def fail_each(plan, asked):
     """Answers what each bucket of a type would cost, the worst first."""
-    type_ = plan.tree.type_number(asked.each)
-    items = plan.tree.buckets_of_type(type_)
+    items = plan.tree.buckets_of_type(plan.tree.type_number(asked.each))
     if not items:
         raise Fault(f"no {asked.each} has devices")
     units = [(it, [d for d in dict.fromkeys(plan.map.below(it)) if d in plan.known]) for it in items]
@@ -134,29 +183,33 @@ def fail_each(plan, asked):
     start.lists_now()
     found, progress = [], Progress(len(units), asked.each + "s")
     try:
-        for done, (item, devices) in enumerate(units):
+        for done, unit in enumerate(units):
             progress.at(done)
-            failure = Failure(plan, start, devices, quick=True)
-            found.append((item, failure, Stay(plan, start, devices, failure.summary.changes)))
+            found.append(Each(plan, start, *unit))
     finally:
         progress.end()
-    warn_of_room(plan, found[0][1].summary)
+    warn_of_room(plan, found[0].failure.summary)
     warn_of_outs(plan, [plan.map.name_of(it) for it in items], [device for _, devices in units for device in devices])
-    found.sort(key=lambda it: (-it[1].down.stopped, -it[1].summary.missing, -len(it[1].summary.past["backfillfull_ratio"]), -it[1].summary.copies, plan.map.name_of(it[0])))
-    statuses = [status_of(plan, it.summary, stay, it.down.stopped) for _, it, stay in found]
+    found.sort(key=Each.order)
+    statuses, rows = [it.status for it in found], [it.said() for it in found]
     status = 1 if 1 in statuses else 2 if 2 in statuses else 0
-    name = asked.each
-    rows = [each_said(plan, *it, own) for it, own in zip(found, statuses)]
-    table = [(it["name"], it["devices"], it["below_min_size"], it["short_down"], it["missing_copies"], it["too_full"], it["moved"], it["copies"], sized(it["bytes"]), each_fullest(it)) for it in rows]
-    heads = (name, "devices", "stops", "short", "no device", "too full", "move", "copies", "bytes", "fullest")
-    if any(stay.is_unknown() for _, _, stay in found):
-        heads = (*heads, "computed")
-        table = [(*row, "in part" if stay.is_unknown() else "all") for row, (_, _, stay) in zip(table, found)]
     own = [list(rows[0])[:-1] + ["fullest", "fullest_percent", "fullest_used"]] + [[*list(it.values())[:-1], *((it["fullest"] or {}).get(key) for key in ("name", "percent_after", "used_after"))] for it in rows]
+    has = "room" if all(it.failure.summary.knows_room() for it in found) else "a device"
+    return Answer(status, each_sentence(plan, asked.each, statuses, has), {"type": asked.each, "each": rows}, [each_table(asked.each, found), each_words(rows)] if plan.pools else [], own)
+
+
+def each_table(name, found):
+    heads, table = (name, "devices", "stops", "short", "no device", "too full", "move", "copies", "bytes", "fullest"), [it.row() for it in found]
+    if any(it.is_in_part() for it in found):
+        heads = (*heads, "computed")
+        table = [(*row, "nothing" if it.is_blank else "in part" if it.is_in_part() else "all") for row, it in zip(table, found)]
+    return Table(heads, table, spare=(1, 3, 8))
+
+
+def each_words(rows):
+    """Says what the columns of the table are."""
     of = "its percent of its share" if all(it["fullest"] is None or it["fullest"]["used_after"] is None for it in rows) else "how much of its room is used"
-    text = f"stops: groups below min_size while it is down, whose I/O stops; short: groups below size then;\nno device: copies that have none once it is out; too full: devices that then get more and are past the\nbackfill-full ratio; move, copies: groups that then move, and copies written anew;\nfullest: the fullest device then, and {of}."
-    has = "room" if all(it.summary.knows_room() for _, it, _ in found) else "a device"
-    return Answer(status, each_sentence(plan, name, statuses, has), {"type": name, "each": rows}, [Table(heads, table), text] if plan.pools else [], own)
+    return f"stops: groups below min_size while it is down, whose I/O stops; short: groups below size then;\nno device: copies that have none once it is out; too full: devices that then get more and are past the\nbackfill-full ratio; move, copies: groups that then move, and copies written anew;\nfullest: the fullest device then, and {of}."
 
 
 def each_sentence(plan, name, statuses, has):
@@ -178,12 +231,3 @@ def each_fullest(it):
         return "-"
     of = it["fullest"]["used_after"]
     return f"{it['fullest']['name']} {shown(it['fullest']['percent_after']) if of is None else hundredths(of)}%"
-
-
-def each_said(plan, item, it, stay, status):
-    summary = it.summary
-    said = summary.said(False)
-    return {
-        "name": plan.map.name_of(item), "devices": len(it.devices), "below_min_size": it.down.stopped, "short_down": it.down.short, "short_groups": summary.short,
-        "missing_copies": summary.missing, "too_full": len(summary.past["backfillfull_ratio"]), "moved": len(summary.moves), "can_move": summary.can_move, "copies": summary.copies, "bytes": said["bytes"], "status": status, "fullest": said["fullest"],
-    }  # fmt: skip

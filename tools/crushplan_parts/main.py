@@ -42,9 +42,50 @@ def answered(asked, beside):
             answer = doubted(COMMANDS[asked.command](plan, asked), plan.doubt)
         finally:
             client.end()
-    sys.stdout.write(written(answer, asked.command, asked.form, plan))
-    sys.stdout.flush()
+    write_out(written(answer, asked.command, asked.form, plan))
     return answer.status
+
+
+def write_out(text):
+    """Writes an answer; a Fault where it can't be written whole."""
+    try:
+        sys.stdout.write(text)
+        sys.stdout.flush()
+    except BrokenPipeError:
+        raise
+    except (OSError, ValueError) as error:
+        close_out()
+        raise Fault(f"the answer can't be written to standard output: {getattr(error, 'strerror', None) or error}") from None
+
+
+def open_streams():
+    """Has both streams there, also where they were closed, and characters that a terminal lacks written as a mark."""
+    if sys.stderr is None:
+        sys.stderr = open(os.devnull, "w")
+    if sys.stdout is None:
+        sys.stdout = Closed()
+    for stream in (sys.stdout, sys.stderr):
+        if hasattr(stream, "reconfigure"):
+            stream.reconfigure(errors="replace")
+
+
+def close_out():
+    """Has what is left of standard output go nowhere."""
+    if hasattr(sys.stdout, "fileno"):
+        os.dup2(os.open(os.devnull, os.O_WRONLY), sys.stdout.fileno())
+
+
+class Closed:
+    """Standard output where there is none."""
+
+    def write(self, text):
+        raise OSError("it is closed")
+
+    def flush(self):
+        """Has nothing to write."""
+
+    def isatty(self):
+        return False
 
 
 def doubted(answer, doubt):
@@ -57,7 +98,7 @@ def doubted(answer, doubt):
 
 def failed(asked, why):
     """Says why there is no answer, in JSON too where that was asked for."""
-    if getattr(asked, "form", "") == "json":
+    if getattr(asked, "form", "") == "json" and not isinstance(sys.stdout, Closed):
         print(json.dumps({"crushplan": 1, "command": asked.command, "status": FAILED, "error": why}))
     print(f"crushplan: {why}", file=sys.stderr)
     return FAILED
@@ -70,6 +111,7 @@ def terminated(*_):
 def main(words, beside):
     """Does what the arguments ask. `beside` are the places where crushcalc may be."""
     signal.signal(signal.SIGTERM, terminated)
+    open_streams()
     parser = arguments.parser()
     asked = parser.parse_args(words)
     if asked.version:
@@ -86,7 +128,7 @@ def main(words, beside):
         print("crushplan: interrupted", file=sys.stderr)
         return INTERRUPTED
     except BrokenPipeError:
-        os.dup2(os.open(os.devnull, os.O_WRONLY), sys.stdout.fileno())
+        close_out()
         return FAILED
     except RecursionError:
         return failed(asked, "the map is nested too deeply")

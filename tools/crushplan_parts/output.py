@@ -25,15 +25,22 @@ class Answer:
 
 class Table:
     """Rows under heads; numbers stand at the right. A title stands above. Where a terminal is too
-    narrow, the words of a last column go on below, or columns are cut."""
+    narrow, the columns `spare` are left out, the words of a last column go on below, or columns are cut."""
 
-    def __init__(self, heads, rows, title=None):
-        self.heads, self.rows, self.title = heads, rows, title
+    def __init__(self, heads, rows, title=None, spare=()):
+        self.heads, self.rows, self.title, self.spare = heads, rows, title, spare
+
+    def without(self, place):
+        """Returns the table without a column."""
+        cut_out = lambda row: [*row[:place], *row[place + 1 :]]
+        return Table(cut_out(self.heads), [cut_out(it) for it in self.rows], self.title, [it - 1 for it in self.spare if it > place])
 
     def text(self, width):
         cells = [[shown(it) for it in row] for row in self.rows]
         right = [all(is_number(row[place]) for row in self.rows) for place in range(len(self.heads))]
         widths = [max(len(head), *(len(row[place]) for row in cells)) if cells else len(head) for place, head in enumerate(self.heads)]
+        if width and self.spare and sum(widths) + 2 * len(widths) > width:
+            return self.without(self.spare[0]).text(width)
         over = sum(widths) + 2 * len(widths) - width if width else 0
         wrapped = over > 0 and not right[-1] and widths[-1] - over >= NARROW
         if wrapped:

@@ -111,6 +111,12 @@ class Plan:
             return f"bucket {map_.buckets[key].name}", below or own
         return f"{kind} {key}" if key is not None else "map", own
 
+    def take_in(self, pool):
+        """Takes a pool for computed after all, which was left out."""
+        self.left_out.pop(pool.id)
+        self.notes = [it for it in self.notes if not (it.open and it.pools == [pool.id])]
+        self.pairs[pool.id] = self.known_pairs(pool)
+
     def known_pairs(self, pool):
         """Returns the upmap items of a pool that crushcalc can have: of its groups, and of devices
         that the text declares."""
@@ -178,6 +184,10 @@ class Plan:
         devices = set(devices)
         return [it for it in self.pools.values() if devices & self.reach(it) or self.with_exception_to(it.id, devices)]
 
+    def stretched(self, devices):
+        """Returns the pools of stretch mode that may have groups on devices: what stops in them isn't computed."""
+        return [it for it in self.touched(devices) if it.stretched]
+
     def with_exception_to(self, pool, devices):
         """Returns the groups that have a pair to one of the devices, or a whole list with one."""
         devices = set(devices)
@@ -203,9 +213,9 @@ class Plan:
         found = {group: tuple(led(own, group, it, affinity)[0] for it in both) for group, both in moves.items()}
         return {group: (old, new) for group, (old, new) in found.items() if old != new}
 
-    def run(self, pools=None, pairs=None, exceptions=None, later=()):
-        """Begins a run on some of the pools, with the cluster's upmap items and other exceptions, or others."""
-        return Run(self, self.pools if pools is None else pools, self.pairs if pairs is None else pairs, exceptions or self.exceptions, later)
+    def run(self, pools=None, pairs=None, exceptions=None, maps=None):
+        """Begins a run on some of the pools, with the cluster's map, upmap items and other exceptions, or others."""
+        return Run(self, self.pools if pools is None else pools, self.pairs if pairs is None else pairs, exceptions or self.exceptions, maps or [self.texts])
 
     def side_by_side(self, *works):
         """Does several works that ask, side by side where that can be; returns what they return."""

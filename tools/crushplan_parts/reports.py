@@ -60,14 +60,21 @@ def warn_of_flags(plan, *more):
         plan.cluster.warnings.append(f"osd.json has the {'flag' if len(flags) == 1 else 'flags'} {some(flags)}: until Ceph is without {'it' if len(flags) == 1 else 'them'}, it doesn't do all of this")
 
 
-def verdict(summary, stay, status, stopped=0):
-    """Returns the answer in one sentence."""
+def near_full(summary):
+    """Says how many devices get past the near-full ratio, which stops nothing."""
+    count = len(summary.past["nearfull_ratio"])
+    return f", but {counted(count, 'device')} {'gets' if count == 1 else 'get'} past near-full (a health warning)" if count else ""
+
+
+def verdict(summary, stay, status, stopped=0, stretched=()):
+    """Returns the answer in one sentence. `stretched` are pools of which it isn't known what stops."""
     moved = f"{counted(len(summary.moves), 'group')} {'moves' if len(summary.moves) == 1 else 'move'}" if summary.moves else "no group moves"
     if status == 2:
         why = ([f"{stay.unknown_text()} can't be computed"] if stay.is_unknown() else []) + ([summary.room_gap()] if summary.room_gap() else [])
+        why += [f"what stops in {'pool' if len(stretched) == 1 else 'the pools'} {some([it.name for it in stretched], 3)} isn't computed (stretch mode)"] if stretched else []
         return f"unknown: {'; '.join(why)}; of what can, {moved}." if summary.changes else "unknown: no pool can be computed."
     if status == 0:
-        return f"yes: {moved}, and every copy has {'room' if summary.knows_room() else 'a device'}."
+        return f"yes{near_full(summary)}: {moved}, and every copy has {'room' if summary.knows_room() else 'a device'}."
     why = []
     if stopped:
         why.append(f"{counted(stopped, 'group')} {'has' if stopped == 1 else 'have'} fewer copies than min_size while the devices are down, so {'its' if stopped == 1 else 'their'} I/O stops")
@@ -105,7 +112,7 @@ def summary_table(plan, summary, stay, title=None, down=()):
         ("groups that move", f"{len(summary.moves):,} of {summary.groups:,}"),
         ("copies that are written anew", f"{summary.copies:,}" + (f", {sized(summary.bytes)}" if summary.bytes is not None else "")),
         ("fullest device afterwards", fullest_text(plan, summary)),
-        ("proved", proved_text(summary, down)),
+        ("not proved: the program is unproved" if plan.client.is_unproved() else "proved", proved_text(summary, down)),
     ]
     if summary.past["nearfull_ratio"]:
         rows.insert(4, ("past the near-full ratio", some([shown_used(it) for it in summary.past["nearfull_ratio"]])))

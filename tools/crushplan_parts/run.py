@@ -36,14 +36,14 @@ class Counting:
 
 
 class Run:
-    """A run on some of the pools, with upmap items and other exceptions. `later` are the texts of the maps that it will
-    import."""
+    """A run on some of the pools, with upmap items and other exceptions. `maps` are the texts of the maps that it
+    imports, of which the first are there from its beginning."""
 
-    def __init__(self, plan, pools, pairs, exceptions, later=()):
+    def __init__(self, plan, pools, pairs, exceptions, maps):
         self.plan, self.pools, self.pairs, self.exceptions = plan, list(pools), pairs, exceptions
         self.changed, self.side_of, sides = {}, {}, {}
         for id_ in self.pools:
-            texts = tuple(it.of[id_] for it in (plan.texts, *later))
+            texts = tuple(it.of[id_] for it in maps)
             if texts not in sides:
                 sides[texts] = Side(texts)
             self.side_of[id_] = sides[texts]

@@ -6,6 +6,7 @@ import http.client
 import json
 import os
 import pathlib
+import re
 import secrets
 import shutil
 import subprocess
@@ -18,6 +19,7 @@ from .faults import Fault
 JOBS = 4
 SECONDS = 600  # as long as one run may take
 TRIES = 3  # of a message to a server
+UNPROVED = "unproved"  # a word of the version of a program that was built without proofs
 LATE = 0.2  # seconds between the tries to drop a tenant whose making was interrupted
 
 
@@ -94,11 +96,19 @@ class Script:
 
     def version(self):
         """Returns what the program says of its version, or that it says nothing."""
+        words = self.version_words()
+        return " ".join(words[:2])[:60] + (" (unproved)" if UNPROVED in words else "") or "unknown"
+
+    def version_words(self):
         try:
             ran = subprocess.run([self.program, "--version"], stdin=subprocess.DEVNULL, stdout=subprocess.PIPE, stderr=subprocess.DEVNULL, timeout=10)
         except (OSError, subprocess.TimeoutExpired):
-            return "unknown"
-        return " ".join(ran.stdout.decode(errors="replace").split()[:2])[:60] or "unknown"
+            return []
+        return re.findall(r"[^\s(),:;]+", ran.stdout.decode(errors="replace"))
+
+    def is_unproved(self):
+        """Returns whether the program says of itself that it is unproved."""
+        return UNPROVED in self.version_words()
 
 
 class Server:
@@ -184,6 +194,10 @@ class Server:
 
     def version(self):
         return "unknown"
+
+    def is_unproved(self):
+        """A server doesn't say which program it is."""
+        return False
 
 
 def found_program(given, beside):

@@ -8,20 +8,22 @@ class Stages:
     """A cluster on its way. `pools` are ids; `pairs`, `lists` and `changed`, the states of devices, are what holds by
     now, and `texts` those of the maps that it had so far, beside its own."""
 
-    def __init__(self, plan, pools, before=None, texts=()):
-        """Takes the stages that came before, or None, and the texts of maps that are there beside the cluster's own."""
+    def __init__(self, plan, pools, before=None, texts=(), first=None):
+        """Takes the stages that came before, or None, and the texts of maps that are there beside the cluster's own; or
+        `first`, those of the map that is there in its place."""
         self.plan, self.pools = plan, sorted(pools)
         pairs, lists = ((before.pairs, before.lists) if before else ({}, {}))
         self.pairs = {it: dict(pairs.get(it, plan.pairs[it])) for it in self.pools}
         self.lists = {it: dict(lists.get(it, plan.exceptions.lists.get(it, {}))) for it in self.pools}
-        self.changed, self.texts, self.map = dict(before.changed if before else {}), list(texts), plan.map
+        self.changed, self.first, self.texts = dict(before.changed if before else {}), first or plan.texts, list(texts)
+        self.map = self.first.map
 
     def exceptions(self):
         return self.plan.exceptions.with_lists({it: dict(own) for it, own in self.lists.items()})
 
     def begun(self, pools=None, later=()):
         """Returns a run on the cluster as it is by now, for some of the pools; `later` are the texts of the next map."""
-        run = self.plan.run(self.pools if pools is None else pools, {it: dict(own) for it, own in self.pairs.items()}, self.exceptions(), [*self.texts, *later])
+        run = self.plan.run(self.pools if pools is None else pools, {it: dict(own) for it, own in self.pairs.items()}, self.exceptions(), [self.first, *self.texts, *later])
         if self.changed:
             run.set_states(self.changed)
         for _ in self.texts:
@@ -39,7 +41,7 @@ class Stages:
         for group, raw in raws.items():
             if group in own or group in lists:
                 old = (list(own.get(group, ())), lists.get(group))
-                kept = keeper.kept_at_last(self.plan.pools[pool], raw, *old)
+                kept = keeper.kept_at_last(self.plan.cluster.pools[pool], raw, *old)
                 if kept != old:
                     found.append(group)
                     for of, value in zip((own, lists), kept):
