@@ -22,6 +22,7 @@ const VIEWS = { map: "Map", pools: "Pools", usage: "Usage", compare: "Compare", 
 // a name of one or two points would be another path
 const NAME = /^(?!\.{1,2}$)[A-Za-z0-9_.-]{1,64}$/;
 const NO_MAP = "Drop the map too: crush.json, or map.txt.";
+const GONE = "a text of the map is gone from the service, with the pools that were computed on it: drop crush.json and osd.json again";
 const at = (id) => document.getElementById(id);
 let cluster = null;
 
@@ -68,12 +69,17 @@ async function openTenant(name, work) {
     return it;
 }
 
-// What the service says of the tenants of a cluster's other texts.
-async function othersOf({ tenant, known: own }, work) {
-    const found = [];
+// What the service says of the tenants of a cluster's other texts. Where one is gone, the pools of
+// all of them are.
+async function othersOf(it, work) {
+    const { tenant, known: own } = it, found = [];
     for (const name of tenantsOf(tenant, own).slice(1)) {
         const reply = await ask(`Open ${name}`, "GET", `/t/${name}`, undefined, work.signal);
-        if (reply.status !== 200) throw new Error(`A text of the map of ${tenant} is gone from the service (${meaning(reply.status, reply.error)}): drop crush.json and osd.json again.`);
+        if (reply.error === "no_tenant") {
+            it.known = note(tenant, { texts: 1, shown: 1, sides: {}, pools: own.pools.filter((pool) => !own.sides[pool.id]), notes: [...own.notes, GONE] });
+            return [];
+        }
+        if (reply.status !== 200) throw new Error(`${name}: ${meaning(reply.status, reply.error)}`);
         found.push(reply);
     }
     return found;

@@ -13,7 +13,7 @@ import { reachOf } from "./reach.js";
 import { readLong } from "./reading.js";
 import { faultOf } from "./refused.js";
 import { keyOf, rowsOf } from "./sets.js";
-import { makeSides, noteFor, setStates, tenantWith } from "./sides.js";
+import { hasSides, makeSides, noteFor, setStates, tenantWith } from "./sides.js";
 import { count, many, some } from "./words.js";
 
 const LONGEST_FILE = 16_777_216, LONGEST_BODY = 5_242_880, LONGEST_GROUPS = 268_435_456, START = 400;
@@ -185,10 +185,10 @@ async function removeOthers(tenant, before, pools, work) {
 // or null where osd.json came alone. `open` opens the cluster anew.
 export async function takeOsd(tenant, osd, map, fresh, open, work) {
     const before = known(tenant).sides;
-    if (!map && known(tenant).texts > 1) throw new Fault("This cluster's map has several texts: drop crush.json too.");
+    if (!map && (known(tenant).texts > 1 || await hasSides(tenant))) throw new Fault("This cluster's map has several texts: drop crush.json too.");
     if (map) {
         work.step("Making the other texts of the map");
-        await makeSides(tenant, map);
+        await makeSides(tenant, map, fresh);
     }
     const cluster = await open(), on = cluster.map, dump = map?.dump;
     const rules = new Map(on.rules.map((it) => [it.id, it])), { kept: pools, left: faults } = dump ? computedPools(osd.pools, (id) => dump.rules.get(id), dump.file, dump) : computedPools(osd.pools, (id) => rules.get(id), "the map", null);
