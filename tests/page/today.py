@@ -209,8 +209,8 @@ def a_folder_without_pgs_is_compared_by_device(page, folder):
 
 @with_folder
 def weight_sets_are_a_text_each(page, folder):
-    """Sets of one position, for single pools and all others; more positions leave a pool out by
-    name."""
+    """Sets of one position, for single pools and all others, of which those stand in one text that
+    have no bucket in common; more positions leave a pool out by name."""
     today, program = Today(), page.program
     sets = {"-1": today.weight_set(""), "2": today.weight_set("ssd"), "4": today.weight_set("hdd")}
     for it in sets["4"]:
@@ -221,7 +221,7 @@ def weight_sets_are_a_text_each(page, folder):
     why = next(it["why"] for it in said["pools"] if it["pool"] == 4)
     known = json.loads(page.browser.run("return localStorage.getItem(`crushcalc.tenant.${arguments[0]}`)", tenant))
     found = first(
-        None if f"pool coded (4) isn't computed: {why}" in note else note, unlike(known["sides"], {"1": 1, "2": 2, "3": 1}, "pools that have another text:"), unlike(known["texts"], 3, "texts:"),
+        None if f"pool coded (4) isn't computed: {why}" in note else note, unlike(known["sides"], {"1": 1, "2": 1, "3": 2}, "pools that have another text:"), unlike(known["texts"], 3, "texts:"),
         same_usage(page, program, folder), same_drain(page, program, folder, ["host3"]),
     )
     # with its name all of it is deleted
