@@ -196,13 +196,13 @@ def a_tree_can_be_searched(page):
 
 def smallest_texts():
     """The texts of docs/MAPS.md with their codes and lines, and one for the code of texts that are
-    too long; and the first words of each code's meaning."""
+    too long; and the first words of each code's meaning. A text of straw2 would get its mark."""
     for section in re.split(r"^(?=\*\*[XM]\d+\*\*: )", MAPS, flags=re.MULTILINE)[1:]:
         code = re.match(r"\*\*([XM]\d+)\*\*", section)[1]
         meaning = re.sub(r"\[([^\]]*)\]\([^)]*\)", r"\1", " ".join(section.split("\n\n")[0].split("**: ")[1].split())).replace("`", "")
         pairs = re.findall(r"^```\n((?:.*\n)*?)```\n`refused line (\d+) code [XM]\d+`$", section, flags=re.MULTILINE)
         for text, line in pairs or [("#" * 4_194_305, 1)]:
-            yield code, text, int(line), re.split(r"[;.:]( |$)| \(", meaning)[0]
+            yield code, text.replace("alg straw2", "alg straw"), int(line), re.split(r"[;.:]( |$)| \(", meaning)[0]
 
 
 def every_code_is_shown_at_its_line(page):
