@@ -2,7 +2,7 @@
 // after each of its stages, and what differs.
 import { Unlike, groupsOf, withCopy } from "./copies.js";
 import { keeper } from "./keeper.js";
-import { NOW, askGroup, askGroups, listsIn, notRead, report, statesOn } from "./lies.js";
+import { NOW, askGroup, listsIn, rawsIn, notRead, report, statesOn } from "./lies.js";
 import { listAt } from "./lists.js";
 import { readLong } from "./reading.js";
 import { exceptionsOf, plainUsage } from "./usage.js";
@@ -28,11 +28,12 @@ function inDoubt({ pairs, lists }, ids, before, after) {
 
 // Takes away the exceptions of a pool that Ceph's monitors would remove then, and gives how many
 // these are: `ids` are the devices whose states change, `map` is another map.
-async function removeBroken(cluster, copy, pool, held, { ids, states, map }, before, after, work) {
+async function removeBroken(cluster, copy, pool, version, held, { ids, states, map }, before, after, work) {
     const on = map ?? cluster.map, { kept: stays } = keeper(on, (id) => statesOn(on, states)(id).reweight > 0), groups = [...inDoubt(held, ids, before, after)].filter((it) => it < pool.pg_num);
     let removed = 0;
     if (groups.length) work.step(`Exceptions of ${pool.name} that Ceph would remove`);
-    for (const [group, { raw }] of await askGroups(`/t/${copy.name}/pools/${pool.id}`, groups, work)) {
+    const raws = groups.length ? await rawsIn(copy, pool, version, groups, statesOn(on, states), held.isBatched() ? new Map() : held.pairs, work) : [];
+    for (const [group, raw] of raws) {
         const pairs = held.pairs.get(group) ?? [], list = held.lists.get(group), kept = stays(pool, raw, pairs, list);
         removed += pairs.length - kept.pairs.length + (list && !kept.list ? 1 : 0);
         if (kept.pairs.length) held.pairs.set(group, kept.pairs);
@@ -43,10 +44,10 @@ async function removeBroken(cluster, copy, pool, held, { ids, states, map }, bef
 }
 
 // What differs.
-async function differ(pools, before, after) {
+async function differ(pools, before, after, how) {
     const found = [];
     for (const pool of pools) {
-        const lists = { before: before.get(pool.id), after: after.get(pool.id) }, it = await readLong("differences", [], { pool, ...lists });
+        const lists = { before: before.get(pool.id), after: after.get(pool.id) }, it = await readLong("differences", [], { pool, ...lists, ...how });
         if (!it) throw notRead(`Lists of ${pool.name}`);
         found.push({ pool, lists, ...it });
     }
@@ -61,7 +62,7 @@ async function allLists(copy, pools, version, held, state, words, work) {
 }
 
 // The stages of a change on a copy of pools that have one text.
-async function stagesOn(cluster, group, copy, stages, work) {
+async function stagesOn(cluster, group, copy, stages, how, work) {
     const { pools } = group, held = new Map(), found = [];
     for (const it of pools) held.set(it.id, (await exceptionsOf(cluster, it, work)).withPairs(copy.pairs.get(it.id)));
     const before = await allLists(copy, pools, NOW, held, statesOn(cluster.map, cluster.known.states), "Where the groups lie now", work);
@@ -72,15 +73,15 @@ async function stagesOn(cluster, group, copy, stages, work) {
         const version = await change(copy, group, held) ?? NOW, last = then?.(), state = statesOn(last?.map ?? cluster.map, states);
         let after = await allLists(copy, pools, version, held, state, words, work), removed = 0;
         for (const pool of last ? pools : []) {
-            const own = held.get(pool.id).copied(), count = await removeBroken(cluster, copy, pool, own, last, before.get(pool.id), after.get(pool.id), work);
+            const own = held.get(pool.id).copied(), count = await removeBroken(cluster, copy, pool, version, own, last, before.get(pool.id), after.get(pool.id), work);
             if (count) {
                 removed += count;
                 held.set(pool.id, own);
-                await copy.exceptions(pool, own.isBatched() ? [] : [...own.pairs].flatMap(([at, pairs]) => pairs.map(([from, to]) => ({ group: at, from, to }))));
+                await copy.exceptions(pool, own.sent());
             }
         }
         if (removed) after = await allLists(copy, pools, version, held, state, words, work);
-        found.push(Object.assign(await differ(pools, before, after), { removed }));
+        found.push(Object.assign(await differ(pools, before, after, how), { removed }));
     }
     return found;
 }
@@ -89,11 +90,12 @@ async function stagesOn(cluster, group, copy, stages, work) {
 // exceptions Ceph would remove. `change` of a stage changes the copy, and gives the version on
 // which it is looked at, if another; `states` are those of devices then; `then` gives what decides
 // which exceptions are removed: the states, and the devices that have another one, or another map.
-// `later` are the texts of another map, which the copies get.
-export async function stagesOf(cluster, pools, stages, work, later) {
+// `later` are the texts of another map, which the copies get; `how` says whether another order alone
+// is no move in a replicated pool (`unordered`).
+export async function stagesOf(cluster, pools, stages, work, later = null, how = {}) {
     const found = stages.map(() => Object.assign([], { removed: 0 }));
     for (const group of groupsOf(cluster, pools, later)) {
-        const own = await withCopy(cluster, group, work, (copy) => stagesOn(cluster, group, copy, stages, work));
+        const own = await withCopy(cluster, group, work, (copy) => stagesOn(cluster, group, copy, stages, how, work));
         own.forEach((it, place) => {
             found[place].push(...it);
             found[place].removed += it.removed;

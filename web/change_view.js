@@ -56,8 +56,9 @@ export function answerRow(cluster, all) {
 
 // The answer in one sentence: whether every copy has a device, and how many groups move. `stopped`
 // is how many groups stop while devices are down, `keeping` how many copies stay on devices that a
-// rule takes by name, `broken` how many groups have exceptions that break their rule, `unknown` how
-// much isn't computed that may have to do with it. Nothing is known where the cluster itself says
+// rule takes by name, `broken` how many groups have exceptions that break their rule, `lacks` the
+// pools that aren't computed and may have to do with it, `stretched` those of which it isn't known
+// what stops. Nothing is known where the cluster itself says
 // that its groups lie otherwise.
 export function verdict(cluster, found, all, more = {}) {
     const { kind, head, rest } = answered(cluster, found, all, more), { doubt } = cluster.known;
@@ -65,7 +66,7 @@ export function verdict(cluster, found, all, more = {}) {
     return el("p", { class: `verdict ${kind}`, id: "verdict" }, el("strong", {}, head), rest);
 }
 
-function answered(cluster, found, all, { stopped = 0, keeping = 0, broken = 0, unknown = 0 }) {
+function answered(cluster, found, all, { stopped = 0, keeping = 0, broken = 0, lacks = [], stretched = [] }) {
     const { rooms } = all, full = rooms.past("backfillfull_ratio"), near = nearText(rooms);
     const lacking = found.filter((it) => it.lacks.copies).map((it) => it.pool.name), moved = `${many(all.moved, "group")} ${all.moved === 1 ? "moves" : "move"}`, has = (it) => (it === 1 ? "has" : "have");
     const before = all.missingBefore === all.missing ? " (as many as before)" : all.missingBefore ? ` (${count(all.missingBefore)} before)` : "";
@@ -77,8 +78,9 @@ function answered(cluster, found, all, { stopped = 0, keeping = 0, broken = 0, u
         keeping && `${many(keeping, "copy", "copies")} ${keeping === 1 ? "stays" : "stay"}: a rule takes the device by name`,
     ].filter(Boolean);
     if (why.length) return { kind: "bad", head: "No", rest: `: ${[...why, rooms.gap].filter(Boolean).join("; ")}; ${moved}.` };
-    const lacks = [unknown && "not all of it can be computed", rooms.gap].filter(Boolean);
-    if (lacks.length) return { kind: "unknown", head: "Unknown", rest: `: ${lacks.join("; ")}; of what can, ${moved}.` };
+    const named = (all) => `${all.length === 1 ? "pool" : "the pools"} ${some(all.map((it) => it.name), 3)}`;
+    const unknown = [lacks.length && `${named(lacks)} can't be computed`, rooms.gap, stretched.length && `what stops in ${named(stretched)} isn't computed (stretch mode)`].filter(Boolean);
+    if (unknown.length) return { kind: "unknown", head: "Unknown", rest: `: ${unknown.join("; ")}; of what can, ${moved}.` };
     return { kind: "good", head: "Yes", rest: `${near ? `, but ${near}` : ""}: ${all.moved ? moved : "no group moves"}, and every copy has ${rooms.isKnown ? "room" : "a device"}.` };
 }
 

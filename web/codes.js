@@ -29,10 +29,10 @@ export const FAULTS = {
 // The codes of what Ceph computes and crushcalc doesn't: such a map isn't wrong.
 export const NOT_COMPUTED = new Set(["X2", "X3", "X4", "M13"]);
 
-// What a map with straw or straw2 buckets can still be used for.
+// What a map with straw buckets can still be used for.
 export const STRAW = {
-    why: "Nothing is wrong with such a map: Ceph computes these buckets, and most clusters have straw2. crushcalc computes straw2 buckets in a text whose first line is # crushcalc: straw2; straw buckets it can't compute.",
-    copy: "Of straw buckets you can try a copy of the text in which they are lists. This command writes it:",
+    why: "Nothing is wrong with such a map: Ceph computes straw buckets, and crushcalc doesn't. 'ceph osd crush set-all-straw-buckets-to-straw2' makes straw2 buckets of them, which are computed, and moves little.",
+    copy: "Or try a copy of the text in which they are lists. This command writes it:",
     command: "sed -E 's/^([[:space:]]*alg[[:space:]]+)straw2?/\\1list/' map.txt >lists.txt",
     good: "Good for: this page's steps, whether the rules find enough hosts or racks, and how evenly a pool spreads, since each device still gets its share by weight.",
     bad: "Not good for: which groups lie where or move, and how much moves. Nearly every object lies elsewhere in the copy than in the cluster, and a change of weights or of hosts moves other amounts in lists.",

@@ -36,7 +36,7 @@ export const WRITES = { crush: "ceph osd crush dump -f json", osd: "ceph osd dum
 
 // Whether a text begins as a dump of groups does, which may be too long to be read at once.
 export function isOfGroups(start) {
-    return /^\ufeff?\s*(\{\s*"pg_ready"|\{\s*"pg_stats"|\[\s*\{\s*"pgid"|\[\s*\]\s*$)/.test(start);
+    return /^\ufeff?\s*(\{\s*"pg_ready"|\{\s*"pg_stats"|\[\s*\{\s*"pgid")/.test(start);
 }
 
 // What a text of JSON says. Numbers that are none, as Ceph writes them, are null.

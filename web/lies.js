@@ -11,6 +11,8 @@ import { stateOf } from "./shares.js";
 
 export const EMPTY = 1, NOW = 2;
 const GONE = { reweight: 0, up: false };
+// how many groups are asked for one by one
+export const MOST = 64;
 
 export function notRead(what) {
     return new Unlike(`${what}: the reply can't be read.`);
@@ -75,6 +77,11 @@ export class Exceptions {
         return found;
     }
 
+    // the pairs that the service has of the pool
+    sent() {
+        return this.isBatched() ? [] : flatPairs(this.pairs);
+    }
+
     // the same with other pairs
     withPairs(pairs) {
         return Object.assign(Object.create(Exceptions.prototype), this, { pairs: byGroup(pairs) });
@@ -116,14 +123,29 @@ export async function askGroups(path, groups, work) {
     return found;
 }
 
+// What a pool's rule gives to some groups, before exceptions and before devices that are down are
+// taken out: a list of each. Of few groups each is asked for. Else all lists are, once nothing is set
+// of the pool and all devices are up; `pairs` are then set again, and so are the states.
+export async function rawsIn(copy, pool, version, groups, state, pairs, work) {
+    const path = `/t/${copy.name}/pools/${pool.id}`;
+    if (groups.length <= MOST) return new Map(Array.from(await askGroups(path, groups, work), ([group, { raw }]) => [group, raw]));
+    const down = [...copy.devices].filter((id) => !state(id).up);
+    await copy.exceptions(pool, []);
+    await copy.states(down.map((id) => ({ id, up: true })));
+    const lists = await report("lists", `Lists of ${pool.name}`, `${path}/moves/${EMPTY}/${version}`, pool, work.signal);
+    await copy.states(down.map((id) => ({ id, up: false })));
+    if (pairs.size) await copy.exceptions(pool, flatPairs(pairs));
+    return new Map(groups.map((group) => [group, Array.from(listAt(lists, group), (it) => (it === -1 ? null : it))]));
+}
+
 // The lists of a pool's groups in a copy, on one version, with exceptions and states: up lists, the
 // primaries, and what each device has by the service alone (`counts`).
 export async function listsIn(copy, pool, version, exceptions, state, words, work) {
     const path = `/t/${copy.name}/pools/${pool.id}`, lists = () => report("lists", `Lists of ${pool.name}`, `${path}/moves/${EMPTY}/${version}`, pool, work.signal);
     work.step(`${words}: ${pool.name}`);
     work.goesOn();
-    const found = await lists(), others = exceptions.others(), own = new Map();
-    if (exceptions.isBatched()) {
+    const found = await lists(), others = [...exceptions.others()].filter((it) => it < pool.pg_num), own = new Map(), isBatched = exceptions.isBatched();
+    if (isBatched) {
         for (const part of exceptions.parts()) {
             await copy.exceptions(pool, flatPairs(part));
             const more = await lists();
@@ -131,9 +153,9 @@ export async function listsIn(copy, pool, version, exceptions, state, words, wor
         }
         await copy.exceptions(pool, []);
     }
-    if (others.size) {
+    if (others.length) {
         work.step(`${words}: ${pool.name}, groups with lists and primaries of their own`);
-        for (const [group, { raw }] of await askGroups(path, [...others].filter((it) => it < pool.pg_num), work)) own.set(group, Int32Array.from(settledUp(pool, raw, exceptions.of(group), state), (it) => it ?? -1));
+        for (const [group, raw] of await rawsIn(copy, pool, version, others, state, isBatched ? new Map() : exceptions.pairs, work)) own.set(group, Int32Array.from(settledUp(pool, raw, exceptions.of(group), state), (it) => it ?? -1));
     }
     if (!own.size && !exceptions.affine) return found;
     const after = await readLong("settled", [], { pool, lists: found, own, affinity: exceptions.affinity });

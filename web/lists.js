@@ -112,9 +112,9 @@ export function movesOf(pool, all, affinity = {}) {
 
 // What differs between the lists of a pool before and after: the groups that move with their
 // lists, what each device has before and after, gains and loses, and what has no device.
-export function differences(pool, before, after) {
-    const groups = [];
-    for (let group = 0; group < pool.pg_num; group += 1) if (!same(listAt(before, group), listAt(after, group))) groups.push(group);
+export function differences(pool, before, after, unordered = false) {
+    const groups = [], stays = unordered && pool.kind !== "erasure" ? (one, other) => same([...one].sort(), [...other].sort()) : same;
+    for (let group = 0; group < pool.pg_num; group += 1) if (!stays(listAt(before, group), listAt(after, group))) groups.push(group);
     const of = (lists) => flat(groups.map((group) => [...listAt(lists, group)])), ids = greatest(before.items, after.items) + 1;
     return { ...moves(pool, Int32Array.from(groups), of(before), of(after)), had: counted(before, ids), has: counted(after, ids), lackedBefore: lacking(pool, before), lacks: lacking(pool, after) };
 }

@@ -2,6 +2,7 @@
 // be, else one for each weight set in use, and where a map has more buckets than a text may have,
 // one for the trees of some rules.
 import { BUCKETS, DEVICES, isComputed, ruleFault } from "./computable.js";
+import { pause } from "./dom.js";
 import { ONE } from "./dump.js";
 import { reachOf, takesOf } from "./reach.js";
 import { keyOf, rowsOf } from "./sets.js";
@@ -21,10 +22,7 @@ export function marked(text) {
 const decimals = new Map();
 
 function exact(weight) {
-    if (!decimals.has(weight)) {
-        const rest = BigInt(weight % ONE) * 10n ** 16n / BigInt(ONE);
-        decimals.set(weight, `${Math.floor(weight / ONE)}.${rest.toString().padStart(16, "0").replace(/0+$/, "") || "0"}`);
-    }
+    if (!decimals.has(weight)) decimals.set(weight, (weight / ONE).toFixed(16).replace(/0{1,15}$/, ""));
     return decimals.get(weight);
 }
 
@@ -76,7 +74,7 @@ function plainShelves(map, rules) {
 
 // The texts for pools that can be computed, and of each pool by id the place of its text; the first
 // `shown` of them have the map's own weights. `more` are devices with states that the map lacks.
-export function textsOf(map, pools, more = []) {
+export async function textsOf(map, pools, more = []) {
     const fits = (it) => !ruleFault(map, it), rules = [...map.rules.values()].filter(fits), shelves = plainShelves(map, rules), shown = shelves.length, places = {};
     for (const pool of pools) {
         const rule = map.rules.get(pool.rule), { buckets } = reachOf(map, rule), rows = rowsOf(map, keyOf(map, pool.id), buckets);
@@ -85,8 +83,13 @@ export function textsOf(map, pools, more = []) {
         if (rows.size) shelves[at].put(rule, buckets, rows);
         places[pool.id] = at;
     }
-    const write = writerOf(map, more);
-    return { texts: shelves.map(write), places, shown };
+    await pause();
+    const write = writerOf(map, more), texts = [];
+    for (const it of shelves) {
+        await pause();
+        texts.push(write(it));
+    }
+    return { texts, places, shown };
 }
 
 // Writes texts that have the same names. A hole has a device of the weight 0.
@@ -95,7 +98,10 @@ function writerOf(map, more) {
     const all = new Map([...items.filter((it) => it.id !== null && it.id >= 0).map((it) => [it.id, `osd.${it.id}`]), ...more.map((id) => [id, `osd.${id}`]), ...map.devices]);
     const devices = [...all].sort((a, b) => a[0] - b[0]);
     let next = Math.max(-1, ...all.keys()) + 1;
-    for (const [id, name] of devices) called.set(id, give(name, `device-${id}`));
+    const declared = devices.map(([id, name]) => {
+        called.set(id, give(name, `device-${id}`));
+        return `device ${id} ${called.get(id)}`;
+    });
     for (const it of items.filter((one) => one.id === null)) {
         filled.set(it, next);
         called.set(next, give(`hole.${next}`, `device-${next}`));
@@ -106,7 +112,7 @@ function writerOf(map, more) {
     return (shelf) => {
         const buckets = inOrder(map, shelf.buckets), holes = buckets.flatMap((it) => it.items.filter((one) => one.id === null)).map((it) => filled.get(it));
         const own = all.size > DEVICES ? placedIn(buckets, shelf.rules) : null, lines = buckets.some((it) => it.alg === "straw2") ? [MARK] : [];
-        lines.push(...map.tunables.map(([name, value]) => `tunable ${name} ${value}`), ...devices.filter(([id]) => !own || own.has(id)).map(([id]) => `device ${id} ${called.get(id)}`), ...holes.map((id) => `device ${id} ${called.get(id)}`));
+        lines.push(...map.tunables.map(([name, value]) => `tunable ${name} ${value}`), ...declared.filter((_, at) => !own || own.has(devices[at][0])), ...holes.map((id) => `device ${id} ${called.get(id)}`));
         for (const [number, name] of [...types].sort((a, b) => a[0] - b[0])) lines.push(`type ${number} ${name}`);
         for (const bucket of buckets) {
             const row = shelf.rows.get(bucket.id), pos = (place) => (bucket.alg === "tree" ? ` pos ${place}` : "");

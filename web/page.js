@@ -22,6 +22,7 @@ const VIEWS = { map: "Map", pools: "Pools", usage: "Usage", compare: "Compare", 
 // a name of one or two points would be another path
 const NAME = /^(?!\.{1,2}$)[A-Za-z0-9_.-]{1,64}$/;
 const NO_MAP = "Drop the map too: crush.json, or map.txt.";
+const GONE = "a text of the map is gone from the service, with the pools that were computed on it: drop crush.json and osd.json again";
 const at = (id) => document.getElementById(id);
 let cluster = null;
 
@@ -68,12 +69,17 @@ async function openTenant(name, work) {
     return it;
 }
 
-// What the service says of the tenants of a cluster's other texts.
-async function othersOf({ tenant, known: own }, work) {
-    const found = [];
+// What the service says of the tenants of a cluster's other texts. Where one is gone, the pools of
+// all of them are.
+async function othersOf(it, work) {
+    const { tenant, known: own } = it, found = [];
     for (const name of tenantsOf(tenant, own).slice(1)) {
         const reply = await ask(`Open ${name}`, "GET", `/t/${name}`, undefined, work.signal);
-        if (reply.status !== 200) throw new Error(`A text of the map of ${tenant} is gone from the service (${meaning(reply.status, reply.error)}): drop crush.json and osd.json again.`);
+        if (reply.error === "no_tenant") {
+            it.known = note(tenant, { texts: 1, shown: 1, sides: {}, pools: own.pools.filter((pool) => !own.sides[pool.id]), notes: [...own.notes, GONE] });
+            return [];
+        }
+        if (reply.status !== 200) throw new Error(`${name}: ${meaning(reply.status, reply.error)}`);
         found.push(reply);
     }
     return found;
@@ -214,8 +220,8 @@ function start(said) {
     const links = tenants().length > 0 && [el("p", {}, "Open here before:"), el("ul", { class: "tenants" }, tenants().map((it) => el("li", {}, el("a", { href: `#/${it}/map` }, it))))];
     return el("section", { class: "start" }, el("h1", { tabindex: "-1" }, "Plan a cluster on paper"),
         el("p", { class: "lead" }, "May this host be drained? Which devices are full, what does a new host move? Computed from what the cluster itself writes of its CRUSH map, without touching the cluster."),
-        el("div", { class: "note" }, el("p", {}, "Look first for ", el("code", {}, "alg straw2"), " in your map's text: most clusters have it, and crushcalc can't compute such buckets unless the text's first line is ", el("code", {}, "# crushcalc: straw2"), "."),
-            el("details", {}, el("summary", {}, "What can be done with such a map"), aboutStraw())),
+        el("div", { class: "note" }, el("p", {}, "Computed are straw2, list, tree and uniform buckets, classes of devices, and exceptions of all kinds, as clusters of today have them. What crushcalc can't compute is named with its pools: buckets of ", el("code", {}, "alg straw"), ", MSR rules, local tries, weight sets with several positions."),
+            el("details", {}, el("summary", {}, "What can be done with straw buckets"), aboutStraw())),
         outcome,
         el("div", { class: "card", role: "group", "aria-labelledby": "new" }, el("h2", { id: "new" }, "Begin with the map of a cluster"),
             labelled("Cluster (tenant)", name, "A name of your choice. Under it the service keeps this cluster's maps, pools and device states, apart from all others; it calls that a tenant."),
@@ -228,7 +234,7 @@ function start(said) {
 
 // What came of dumps or a map for a new cluster, or for one that has no map yet.
 async function takeFirst(tenant, files, work) {
-    const osd = osdIn(files), map = mapIn(files, osd);
+    const osd = osdIn(files), map = await mapIn(files, osd);
     if (!map) throw new Error(NO_MAP);
     const version = await importMap(tenant, map, (file) => take([file]));
     return osd ? takeWhole(tenant, map, files, work, version === 1 && known(tenant).seen === 1) : done(tenant, `${map.name} is version ${version} of the map. `, ["pools", "Make a pool"], ["compare", "Compare the versions"], version);
@@ -270,7 +276,7 @@ async function takeFullness(tenant, files, work) {
 async function takeMore(tenant, files, work) {
     if (files.saved) return { said: takeSaved(files.saved, cluster.summary) };
     if (files.states) return { said: await takeStates(cluster, files.states) };
-    const osd = osdIn(files), map = mapIn(files, osd, (id) => cluster.map.byId.has(id), cluster.known.pools);
+    const osd = osdIn(files), map = await mapIn(files, osd, (id) => cluster.map.byId.has(id), cluster.known.pools);
     if (map && osd) {
         if (signature(readMap(map.text)) !== signature(readMap(cluster.texts.get(tenant)))) await importMap(tenant, map, (file) => take([file]));
         return takeWhole(tenant, map, files, work, false);

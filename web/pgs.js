@@ -1,7 +1,7 @@
 // The cluster's own word: where it says that groups lie (`ceph pg dump pgs_brief -f json`), beside
 // what is computed. The worker and the page both use this.
 import { listAt } from "./lists.js";
-import { count, many, some } from "./words.js";
+import { count, many } from "./words.js";
 
 const NONE = 2147483647, NAMED = 4, LINES = 20;
 
@@ -30,33 +30,37 @@ function written(list) {
 
 const same = (one, other) => one.length === other.length && one.every((it, at) => it === other[at]);
 
-// How the groups of a pool lie beside what is computed: how many there are, those of which the
-// cluster is silent, and those that lie otherwise, in words. `said` is what it says of the pool, or
-// undefined, and `why` gives why a group may lie otherwise.
+// How the groups of a pool lie beside what is computed: how many there are, of how many the cluster
+// is silent, with some of them by name (`quiet`), and how many lie otherwise, with some of them in
+// words (`lines`). `said` is what it says of the pool, or undefined, and `why` gives why a group may
+// lie otherwise.
 export function comparedPool(pool, lists, said, why) {
-    const places = new Int32Array(pool.pg_num).fill(-1), found = { count: pool.pg_num, silent: [], others: [], usage: null }, entries = new Map(), id = (group) => `${pool.id}.${group.toString(16)}`;
+    const places = new Int32Array(pool.pg_num).fill(-1), found = { count: pool.pg_num, silent: 0, quiet: [], differ: 0, lines: [], usage: null }, entries = new Map(), id = (group) => `${pool.id}.${group.toString(16)}`;
     said?.groups.forEach((group, at) => { if (group < pool.pg_num) places[group] = at; });
     for (let group = 0; group < pool.pg_num; group += 1) {
         const at = places[group];
         if (at < 0 || said.silent[at]) {
-            found.silent.push(id(group));
+            found.silent += 1;
+            if (found.quiet.length < NAMED) found.quiet.push(id(group));
             continue;
         }
         const up = listAt(said, at), here = listAt(lists, group), primary = said.primaries[at], own = lists.primaries[group];
         for (const it of up) if (it !== -1) entries.set(it, (entries.get(it) ?? 0) + 1);
         if (same(up, here) && primary === own) continue;
+        found.differ += 1;
+        if (found.lines.length >= LINES) continue;
         const leads = (it) => (it === -1 ? "None" : it), more = same(up, here) ? `, primary ${leads(primary)} here ${leads(own)}` : "";
-        found.others.push(`${id(group)} up ${written(up)} here ${written(here)}${more}: ${why(group, [...up], [...here])}`);
+        found.lines.push(`${id(group)} up ${written(up)} here ${written(here)}${more}: ${why(group, [...up], [...here])}`);
     }
-    if (!found.silent.length) found.usage = entries;
+    if (!found.silent) found.usage = entries;
     return found;
 }
 
 // What is said of all pools together: check's words.
 export function comparedText(parts) {
-    const sum = (of) => parts.reduce((all, it) => all + of(it), 0), groups = sum((it) => it.count), silent = parts.flatMap((it) => it.silent), others = parts.flatMap((it) => it.others);
-    const lie = `${count(groups - silent.length - others.length)} of ${many(groups, "group")} ${groups === 1 ? "lies" : "lie"} as computed`;
-    const quiet = silent.length ? `; of ${count(silent.length)} the cluster says nothing (${some(silent, NAMED)})` : "";
-    const rest = others.length > NAMED ? `; and ${count(others.length - NAMED)} more` : "";
-    return { text: `${lie}${quiet}${others.length ? `; ${count(others.length)} ${others.length === 1 ? "differs" : "differ"}: ${others.slice(0, NAMED).join("; ")}${rest}` : ""}`, lines: others.slice(0, LINES), differ: others.length };
+    const sum = (of) => parts.reduce((all, it) => all + of(it), 0), groups = sum((it) => it.count), silent = sum((it) => it.silent), differ = sum((it) => it.differ);
+    const first = (all, of, between, more) => `${all.slice(0, NAMED).join(between)}${of > NAMED ? `${more} ${count(of - NAMED)} more` : ""}`;
+    const lie = `${count(groups - silent - differ)} of ${many(groups, "group")} ${groups === 1 ? "lies" : "lie"} as computed`, lines = parts.flatMap((it) => it.lines);
+    const quiet = silent ? `; of ${count(silent)} the cluster says nothing (${first(parts.flatMap((it) => it.quiet), silent, ", ", " and")})` : "";
+    return { text: `${lie}${quiet}${differ ? `; ${count(differ)} ${differ === 1 ? "differs" : "differ"}: ${first(lines, differ, "; ", "; and")}` : ""}`, lines: lines.slice(0, LINES), differ };
 }

@@ -7,7 +7,7 @@ import { guilty, mended } from "./texts.js";
 
 const AROUND = 8, LONGEST_LINE = 300;
 
-// What holds of a map with straw or straw2 buckets.
+// What holds of a map with straw buckets.
 export function aboutStraw() {
     return [el("p", {}, STRAW.why), el("p", {}, STRAW.copy), el("pre", {}, el("code", {}, STRAW.command)), el("p", {}, STRAW.good), el("p", {}, STRAW.bad), el("p", {}, el("strong", {}, STRAW.never))];
 }

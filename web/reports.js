@@ -25,7 +25,7 @@ const READERS = {
         return { epoch, ...listsOf(rows, pool.pg_num) };
     },
     settled: ([], { pool, lists, own, affinity }) => settledLists(pool, lists, own, affinity),
-    differences: ([], { pool, before, after }) => differences(pool, before, after),
+    differences: ([], { pool, before, after, unordered }) => differences(pool, before, after, unordered),
     // where the cluster itself says that groups lie
     pgs: ([bytes]) => groupsSaid(json(bytes)),
 };

@@ -27,6 +27,11 @@ export function noteFor(tenant, at, more = {}) {
     return at === tenant ? more : { ...more, of: tenant };
 }
 
+// Whether the service has another text of a cluster, which another browser may have made.
+export async function hasSides(tenant) {
+    return (await ask(`Look for other texts of ${tenant}`, "GET", `/t/${sideName(tenant, 1)}`)).status === 200;
+}
+
 // Drops the tenants of other texts, also those that another browser made.
 export async function dropSides(tenant) {
     for (let place = 1; ; place += 1) {
@@ -37,8 +42,8 @@ export async function dropSides(tenant) {
 
 // Makes the tenants of other texts, of which the first is the cluster's own. `places` says of pools
 // by id which text they have, and `shown` how many of the texts show the map.
-export async function makeSides(tenant, { texts, places, shown }) {
-    const left = known(tenant).texts > 1 || texts.length > 1 ? await dropSides(tenant) : null;
+export async function makeSides(tenant, { texts, places, shown }, fresh) {
+    const left = !fresh || texts.length > 1 ? await dropSides(tenant) : null;
     if (left) good(left, "The tenants of other texts");
     for (let place = 1; place < texts.length; place += 1) {
         const name = sideName(tenant, place), words = `Make the tenant of text ${place + 1}`;

@@ -13,7 +13,7 @@ import { reachOf } from "./reach.js";
 import { readLong } from "./reading.js";
 import { faultOf } from "./refused.js";
 import { keyOf, rowsOf } from "./sets.js";
-import { makeSides, noteFor, setStates, tenantWith } from "./sides.js";
+import { hasSides, makeSides, noteFor, setStates, tenantWith } from "./sides.js";
 import { count, many, some } from "./words.js";
 
 const LONGEST_FILE = 16_777_216, LONGEST_BODY = 5_242_880, LONGEST_GROUPS = 268_435_456, START = 400;
@@ -67,11 +67,11 @@ export function crushIn(files, there) {
 // The map of the files: its texts for the service, the first one alone where it is no dump, and the
 // dump where it is one. `pools` are those that it is for, where no osd.json says them: of those that
 // can't be computed `left` says why.
-export function mapIn(files, osd, there, pools = []) {
+export async function mapIn(files, osd, there, pools = []) {
     const dump = crushIn(files, there);
     if (!dump) return files.text && { name: files.text.name, ...marked(files.text.text), places: {}, shown: 1, dump: null, get texts() { return [this.text]; } };
     const { kept, left } = computedPools(osd?.pools ?? pools, (id) => dump.rules.get(id), dump.file, dump);
-    const written = textsOf(dump, kept, osd ? [...osd.states.keys()].filter((id) => !dump.devices.has(id)) : []);
+    const written = await textsOf(dump, kept, osd ? [...osd.states.keys()].filter((id) => !dump.devices.has(id)) : []);
     return { name: files.crush.name, ...written, text: written.texts[0], more: 0, dump, left };
 }
 
@@ -185,15 +185,15 @@ async function removeOthers(tenant, before, pools, work) {
 // or null where osd.json came alone. `open` opens the cluster anew.
 export async function takeOsd(tenant, osd, map, fresh, open, work) {
     const before = known(tenant).sides;
-    if (!map && known(tenant).texts > 1) throw new Fault("This cluster's map has several texts: drop crush.json too.");
+    if (!map && (known(tenant).texts > 1 || await hasSides(tenant))) throw new Fault("This cluster's map has several texts: drop crush.json too.");
     if (map) {
         work.step("Making the other texts of the map");
-        await makeSides(tenant, map);
+        await makeSides(tenant, map, fresh);
     }
     const cluster = await open(), on = cluster.map, dump = map?.dump;
     const rules = new Map(on.rules.map((it) => [it.id, it])), { kept: pools, left: faults } = dump ? computedPools(osd.pools, (id) => dump.rules.get(id), dump.file, dump) : computedPools(osd.pools, (id) => rules.get(id), "the map", null);
     const pairs = new Map(pools.map((it) => [it, pairsOf(osd, it, on)]));
-    const left = [...faults].map(([it, why]) => ({ pool: it.id, devices: reached(it, on, dump), text: `pool ${it.name} (${it.id}) isn't computed: ${why}` })), lines = [...left.map((it) => it.text), ...oddities(osd, dump, pools)];
+    const left = [...faults].map(([it, why]) => ({ pool: it.id, name: it.name, devices: reached(it, on, dump), text: `pool ${it.name} (${it.id}) isn't computed: ${why}` })), lines = [...left.map((it) => it.text), ...oddities(osd, dump, pools)];
     work.step("Setting the states of devices");
     const states = await setAllStates(cluster, statesOf(osd, on), { whole: fresh }), lacking = [...osd.states.keys()].filter((id) => !on.byId.has(id));
     if (lacking.length) lines.push(`${osd.file} has devices that the map lacks; they hold nothing: ${some(lacking.map((it) => `osd.${it}`))}`);

@@ -2,7 +2,7 @@
 // what is made of it.
 import { ask } from "./service.js";
 import { exceptionsIn, good, groupsOf, withCopy } from "./copies.js";
-import { Exceptions, NOW, askGroups, listsIn, settled, statesOn } from "./lies.js";
+import { Exceptions, MOST, NOW, askGroups, listsIn, settled, statesOn } from "./lies.js";
 import { expectedOf } from "./shares.js";
 
 // What the service says. It is asked once for each epoch of the cluster.
@@ -60,7 +60,7 @@ async function countedInCopy(cluster, pool, plain, work) {
 export async function usageOf(cluster, pool, work) {
     if (!cluster.usages.has(pool.id)) {
         const plain = await plainUsage(cluster, pool, work), exceptions = await exceptionsOf(cluster, pool, work);
-        const find = exceptions.affine || exceptions.isBatched() ? countedInCopy : exceptions.others().size ? corrected : null;
+        const find = exceptions.affine || exceptions.isBatched() || exceptions.others().size > MOST ? countedInCopy : exceptions.others().size ? corrected : null;
         cluster.usages.set(pool.id, find ? { ...plain, rows: await find(cluster, pool, plain, work) } : plain);
     }
     return cluster.usages.get(pool.id);

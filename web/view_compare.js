@@ -60,7 +60,7 @@ async function versions(cluster, from, to, work) {
 // A map that is tried in a copy, beside the newest version.
 async function tried(cluster, file, refresh, work) {
     const { name } = file, computed = (pool) => !file.dump || pool.id in file.places, pools = poolsChosen(cluster).filter(computed), { states } = cluster.known;
-    const without = poolsChosen(cluster).filter((it) => !computed(it)), why = (pool) => [...file.left].find(([it]) => it.id === pool.id)?.[1], lacks = [...leftOut(cluster), ...without.map((it) => ({ text: `pool ${it.name} (${it.id}) isn't computed on ${name}: ${why(it)}` }))];
+    const without = poolsChosen(cluster).filter((it) => !computed(it)), why = (pool) => [...file.left].find(([it]) => it.id === pool.id)?.[1], lacks = [...leftOut(cluster), ...without.map((it) => ({ name: it.name, text: `pool ${it.name} (${it.id}) isn't computed on ${name}: ${why(it)}` }))];
     if (!pools.length) return [el("p", { class: "verdict unknown", id: "verdict" }, el("strong", {}, "Unknown"), ": no pool can be computed."), leftOutNote(lacks)];
     const refusals = [];
     // of several texts the first ones have the map's own weights
@@ -92,7 +92,7 @@ async function tried(cluster, file, refresh, work) {
         return undefined;
     }, { id: "keep" });
     return [el("h2", { class: "title" }, `Version ${cluster.summary.versions} and ${name}`), el("p", { class: "hint" }, `${name} was tried in a copy: the newest version is ${cluster.summary.versions} as before. `, keep),
-        verdict(both, found, all, { unknown: lacks.length }), leftOutNote(lacks), beside(all), answerRow(both, all), poolLines(found), changePicture(both, all), beforeAfter(both, all, saved), groupsFolded(both, found, ["now", `by ${name}`], saved)];
+        verdict(both, found, all, { lacks }), leftOutNote(lacks), beside(all), answerRow(both, all), poolLines(found), changePicture(both, all), beforeAfter(both, all, saved), groupsFolded(both, found, ["now", `by ${name}`], saved)];
 }
 
 // The places of both maps: those of the other one, and what it lacks of the first.

@@ -4,6 +4,7 @@ import { button, el, fault, labelled, options, pause, sayDone } from "./dom.js";
 import { canMove, stagesOf } from "./answer.js";
 import { answerRow, beforeAfter, beside, changePicture, groupsFolded, leftOutNote, poolLines, totals, verdict } from "./change_view.js";
 import { figures } from "./figures.js";
+import { partsOf } from "./shares.js";
 import { count, many, some } from "./words.js";
 import { namesOf, picker } from "./picker.js";
 import { leftOut, missing, poolsChosen, poolPicker } from "./view_pools.js";
@@ -38,18 +39,30 @@ function flagsOf({ known }, ids, fails) {
     ];
 }
 
-// Pools whose groups may stop for another reason than is counted.
-function stretchedOf({ known }, pools) {
-    return pools.filter((it) => known.stretched.includes(it.id)).map((it) => ({ text: `pool ${it.name} (${it.id}) is stretched over sites: a group of it also stops where a site has no copy, which isn't computed` }));
+// Pools in stretch mode that may have groups on the devices: what stops in them isn't known, since
+// it also counts where copies are, and Ceph changes min_size by itself.
+function stretchedOf(cluster, pools, ids) {
+    const own = new Set(ids);
+    return pools.filter((it) => isStretched(cluster, it) && [...partsOf(cluster.map, it, {}).keys()].some((id) => own.has(id)));
+}
+
+function isStretched({ known }, pool) {
+    return known.stretched.includes(pool.id);
+}
+
+// How many groups stop while devices are down, as far as is known.
+function stoppedIn(cluster, found) {
+    return found.reduce((sum, it) => sum + (isStretched(cluster, it.pool) ? 0 : it.lacks.stopped), 0);
 }
 
 // What holds while the devices are down and not out yet.
-function atOnce(found) {
-    const sum = (of) => found.reduce((all, it) => all + of(it.lacks), 0), unknown = found.filter((it) => !it.pool.min_size).map((it) => it.pool.name);
+function atOnce(cluster, found, stretched) {
+    const degraded = found.reduce((all, it) => all + it.lacks.groups, 0), stopped = stoppedIn(cluster, found), unknown = found.filter((it) => !it.pool.min_size).map((it) => it.pool.name);
     return [el("h2", {}, "At once, while they are down"),
-        figures([[sum((it) => it.stopped), "groups stop: they have fewer copies than the pool's min_size", sum((it) => it.stopped) ? "bad" : "good", "stopped"],
-            [sum((it) => it.groups), "groups have fewer copies than the pool's size", "", "degraded"]], "at-once"),
+        figures([[stretched.length && !stopped ? "?" : stopped, "groups stop: they have fewer copies than the pool's min_size", stopped ? "bad" : stretched.length ? "" : "good", "stopped"],
+            [degraded, "groups have fewer copies than the pool's size", "", "degraded"]], "at-once"),
         unknown.length > 0 && el("p", { class: "note" }, `The min_size of ${unknown.join(", ")} isn't known here, so no group of it is counted as stopped.`),
+        stretched.length > 0 && el("p", { class: "note" }, `What stops in ${some(stretched.map((it) => it.name))} isn't computed: in stretch mode it also counts where copies are.`),
         el("h2", {}, "When they are taken out")];
 }
 
@@ -75,14 +88,14 @@ function stay(cluster, ids, found) {
 }
 
 function shown(cluster, pools, ids, fails, results) {
-    const lacks = [...leftOut(cluster, ids), ...fails ? stretchedOf(cluster, pools) : []], found = results.at(-1), names = namesOf(cluster, ids).join(", "), chosen = new Set(ids);
+    const lacks = leftOut(cluster, ids), stretched = fails ? stretchedOf(cluster, pools, ids) : [], found = results.at(-1), names = namesOf(cluster, ids).join(", "), chosen = new Set(ids);
     const all = totals(cluster, found, { before: cluster.known.states, after: statesAfter(cluster, ids, fails) });
     const mark = (place) => {
         const within = place.devices.filter((it) => chosen.has(it)).length, word = fails ? "failed" : "drained";
         return within > 0 && el("span", { class: "badge out" }, within === place.devices.length ? word : `${word} in part`);
     };
-    const file = `${cluster.tenant}-${namesOf(cluster, ids)[0]}`, stopped = fails ? results[0].reduce((sum, it) => sum + it.lacks.stopped, 0) : 0;
-    return [el("h2", { class: "title", id: "answered", tabindex: "-1" }, `${fails ? "Failure" : "Drain"} of ${names}`), verdict(cluster, found, all, { stopped, keeping: stay(cluster, ids, found), unknown: lacks.length }), leftOutNote(lacks), beside(all, flagsOf(cluster, ids, fails)), fails && atOnce(results[0]), answerRow(cluster, all), proved(cluster, pools, ids), poolLines(found), el("h2", {}, "Usage before and after"), changePicture(cluster, all), beforeAfter(cluster, all, file, mark),
+    const file = `${cluster.tenant}-${namesOf(cluster, ids)[0]}`, stopped = fails ? stoppedIn(cluster, results[0]) : 0;
+    return [el("h2", { class: "title", id: "answered", tabindex: "-1" }, `${fails ? "Failure" : "Drain"} of ${names}`), verdict(cluster, found, all, { stopped, keeping: stay(cluster, ids, found), lacks, stretched }), leftOutNote(lacks), beside(all, flagsOf(cluster, ids, fails)), fails && atOnce(cluster, results[0], stretched), answerRow(cluster, all), proved(cluster, pools, ids), poolLines(found), el("h2", {}, "Usage before and after"), changePicture(cluster, all), beforeAfter(cluster, all, file, mark),
         groupsFolded(cluster, found, ["before", "after"], file),
         el("p", { class: "hint" }, `Computed on a copy of the cluster on the service, which is dropped: neither your Ceph cluster nor what is kept here is changed. ${many(ids.length, "device")}, ${many(pools.length, "pool")}.`)].flat();
 }

@@ -68,7 +68,7 @@ async function shown(cluster, work) {
         placesTable(cluster, {
             values, top: (it) => Math.max(it.copies, it.expected),
             columns: [{ head: "copies", text: (it) => count(it.copies) }, { head: "expected", text: (it) => decimals(it.expected, 2) }, { head: "of its share", text: (it) => percentText(it.copies, it.expected) },
-                ...known ? [{ head: "bytes", text: (it) => sized(it.bytes) }] : [], ...used ? [{ head: "used", text: (it) => (it.size ? hundredths(it.held / it.size) : "–") }] : []],
+                ...known ? [{ head: "bytes", text: (it) => sized(it.bytes) }] : [], ...used ? [{ head: "used", text: (it) => (it.size ? hundredths(Number(decimals(it.held / it.size, 4))) : "–") }] : []],
             draw({ block, line }, it) {
                 block("used", 0, it.copies);
                 if (it.expected) line("even", it.expected);

@@ -102,15 +102,13 @@ def what_is_not_computed_is_named(page):
     osd = json.loads(SMALL.osd(POOLS))
     osd["pools"][1]["crush_rule"] = 7
     osd["pools"][0]["pg_num_target"] = 128
-    osd["pg_upmap"] = [{"pgid": "1.7", "osds": [1, 5, 9]}]
     osd["pg_temp"] = [{"pgid": "1.8", "osds": [1, 5, 9]}]
-    osd["osds"][5]["primary_affinity"] = 0.5
     tenant = page.fresh()
     page.browser.drop(SMALL.crush(), "crush.json", (json.dumps(osd), "osd.json"))
     page.browser.until(lambda: "The cluster is there" in page.browser.text("#said"), "the dumps aren't taken")
     pools, said = page.summary(tenant)["pools"], page.browser.text("#not-computed")
-    wanted = ("pool meta (2) isn't computed: crush.json lacks its rule 7", "pool photos is being split or merged (pg_num 64 on its way to 128", "1.7", "1.8", "osd.5")
-    # a drain of the host that has a copy of 1.7
+    wanted = ("pool meta (2) isn't computed: crush.json lacks its rule 7", "pool photos is being split or merged (pg_num 64 on its way to 128", "1.8")
+    # a drain of a host
     lies = lambda **more: Placed(SMALL.text(), pool=1, size=3, pg_num=64, **more)
     before = lies()
     host = before.up[7][0] // 4
@@ -119,11 +117,10 @@ def what_is_not_computed_is_named(page):
     verdict, lacks = page.browser.text("#verdict"), page.browser.text("#left-out")
     page.browser.click("#which summary")
     page.browser.has("#groups tbody tr")
-    others = [it for it, _, _ in moves if it != 7]
     return first(
-        *(None if it in said else f"{it!r} isn't in {said!r}" for it in wanted), unlike(pools, 1), unlike(len(moves) - len(others), 1, "moves of 1.7:"),
-        unlike(verdict, f"Unknown: not all of it can be computed; of what can, {len(others)} groups move."), unlike(sorted(page.rows("#groups tbody tr")), others, "groups:"),
-        *(None if it in lacks else f"{it!r} isn't in {lacks!r}" for it in ("pool meta (2) isn't computed", "1 group with whole upmap lists may have to do")),
+        *(None if it in said else f"{it!r} isn't in {said!r}" for it in wanted), unlike(pools, 1),
+        unlike(verdict, f"Unknown: pool meta can't be computed; of what can, {len(moves)} groups move."), unlike(sorted(page.rows("#groups tbody tr")), [it for it, _, _ in moves], "groups:"),
+        None if "pool meta (2) isn't computed" in lacks else lacks,
     )
 
 
@@ -133,7 +130,7 @@ def files_that_are_no_dumps(page):
     broken = json.loads(SMALL.crush())
     del broken["buckets"][2]["items"][1]["weight"]
     for files, words in (
-        ([("{", "crush.json")], "crush.json is neither"), ([("[]", "osd.json")], "osd.json"), ([(json.dumps(broken), "crush.json")], "crush.json: buckets[2]: items[1] has no field 'weight'"),
+        ([("{", "crush.json")], "crush.json is none of what"), ([("[]", "osd.json")], "osd.json"), ([(json.dumps(broken), "crush.json")], "crush.json: buckets[2]: items[1] has no field 'weight'"),
         ([(SMALL.osd(POOLS), "osd.json")], "Drop the map too"), ([(SMALL.crush(), "a.json"), (SMALL.crush(), "b.json")], "of one kind"),
     ):
         page.browser.drop(*files[0], *files[1:])

@@ -25,6 +25,24 @@ def share(number):
     return f"{number:.2f}"
 
 
+def sized(number):
+    """Bytes as crushplan prints them."""
+    unit = 0
+    while abs(number) >= 1024 and unit < 6:
+        number, unit = number / 1024, unit + 1
+    return f"{number:.{1 if unit else 0}f} {('B', 'KiB', 'MiB', 'GiB', 'TiB', 'PiB', 'EiB')[unit]}"
+
+
+def part(used):
+    """A part of 1 in percent, as it is shown."""
+    return "–" if used is None else f"{(used * 10000 + 5) // 10 / 10:.1f}%"
+
+
+def in_bytes(row):
+    """The figures of bytes and room of a row of usage, where the files say them."""
+    return ([sized(row["bytes"])] if row["bytes"] is not None else []) + ([part(row["used"])] if row["used"] is not None else [])
+
+
 def percent(of, copies):
     return f"{of:.1f} %" if of is not None else "none expected" if copies else "–"
 
@@ -86,7 +104,7 @@ def same_usage(page, program, folder):
     for level in ("device", "host", "rack"):
         rows = plan(program, folder, "usage", *(["--by", level] if level != "device" else []))["rows"]
         here = shown_by(page, level, "places")
-        whys.append(unlike(here, {it["name"]: [counted(it["copies"]), share(it["share"]), percent(it["percent"], it["copies"])] for it in rows if it["name"] != "-"}, f"usage by {level}:"))
+        whys.append(unlike(here, {it["name"]: [counted(it["copies"]), share(it["share"]), percent(it["percent"], it["copies"]), *in_bytes(it)] for it in rows if it["name"] != "-"}, f"usage by {level}:"))
     found = defaultdict(lambda: [0, 0])
     for _, _, device, *_, own, _, _, _, primaries, _ in (it.split(",") for it in page.saved("#places-csv").splitlines()[1:]):
         one = found[int(device)]
@@ -100,15 +118,20 @@ def same_usage(page, program, folder):
 
 def same_change(page, what, said):
     """The figures, the pools, the devices and hosts, and the groups of an answer."""
-    row = lambda it: [counted(it["copies_before"]), counted(it["copies_after"]), signed(it["copies_after"] - it["copies_before"]), percent(it["percent_after"], it["copies_after"])]
-    here = {name: [*own[:3], own[4]] for name, own in shown_by(page, "device", "usages").items()}
+    row = lambda it: [counted(it["copies_before"]), counted(it["copies_after"]), signed(it["copies_after"] - it["copies_before"]), percent(it["percent_after"], it["copies_after"]), *([sized(it["bytes_after"])] if it["bytes_after"] is not None else [])]
+    here = {name: [*own[:3], *own[4:6]] for name, own in shown_by(page, "device", "usages").items()}
     figures = {"short": counted(said["short"]["groups"]), "moved": counted(said["moved"]), "anew": counted(said["copies"]), "fullest": percent(said["fullest"]["percent_after"], 1)}
+    found = page.figures()
+    room, used = found.pop("room", None), said["fullest"]["used_after"]
     pools = [[cell.text for cell in it.find_elements("css selector", "th, td")] for it in page.browser.all("#by-pool tbody tr")]
+    anew = page.browser.text("[data-figure='anew'] dt")
     lines = [it.split(",") for it in page.saved("#usages-csv").splitlines()][1:]
-    csv = {int(it[0]): (it[1], it[2], *map(int, it[6:8]), *map(float, it[8:10])) for it in lines}
-    wanted = {it["device"]: (it["name"], it["host"], it["copies_before"], it["copies_after"], it["share_before"], it["share_after"]) for it in said["usage"]}
+    csv = {int(it[0]): (it[1], it[2], *map(int, it[6:8]), *map(float, it[8:10]), *(float(of) if of else None for of in it[12:])) for it in lines}
+    rooms = ("bytes_before", "bytes_after", "used_before", "used_after") if any(it["bytes_after"] is not None for it in said["usage"]) else ()
+    wanted = {it["device"]: (it["name"], it["host"], it["copies_before"], it["copies_after"], it["share_before"], it["share_after"], *(it[of] for of in rooms)) for it in said["usage"]}
+    by_pool = [[it["name"], *(counted(it[key]) for key in ("short_groups", "missing_copies", "moved", "copies"))] for it in said["pools"]]
     return first(
-        unlike(page.figures(), figures, f"{what}:"), unlike(pools, [[it["name"], *(counted(it[key]) for key in ("short_groups", "missing_copies", "moved", "copies"))] for it in said["pools"]], f"{what}, pools:"),
+        unlike(found, figures, f"{what}:"), None if used is None or abs(float(room.rstrip("%")) - 100 * used) <= 0.06 else f"{what}: {room}, not {used}", unlike(pools, by_pool if len(by_pool) > 1 else [], f"{what}, pools:"), None if said["bytes"] is None or sized(said["bytes"]) in anew else f"{what}: {anew}, not {sized(said['bytes'])}",
         unlike(here, {it["name"]: row(it) for it in said["usage"]}, f"{what}, devices:"), unlike(csv, wanted, f"{what}, the CSV:"), same_hosts(page, what, said), same_groups(page, what, said),
     )
 

@@ -163,7 +163,7 @@ def the_first_view_a_refused_map_and_a_question(page):
         page.browser.colours("light")
 
     looked_at("first")
-    page.browser.drop(example("cluster.txt").replace("alg list", "alg straw2"), "straw2.txt")
+    page.browser.drop(example("cluster.txt").replace("alg list", "alg straw"), "straw.txt")
     page.browser.one(".refused")
     looked_at("refused")
     page.browser.click("#remove")

@@ -13,7 +13,7 @@ from page import DRAINED, EXAMPLES, TOP, example, first, unlike
 from model.placed import Placed
 
 CLICKS = 3
-STRAW = "Nothing is wrong with such a map: Ceph computes these buckets"
+STRAW = "Nothing is wrong with such a map: Ceph computes straw buckets"
 NOT_COMPUTED = {"X2", "X3", "X4", "M13"}
 MARKUP = '<b>cat</b> & "dog"<img src=x onerror=alert(1)>.jpg'
 PAGE = (TOP / "docs" / "PLANNING.md").read_text()
@@ -87,7 +87,7 @@ def names_that_no_tenant_may_have(page):
 
 
 def the_first_view_says_what_to_do(page):
-    """Before anything is dropped: what the name is for, and that straw2 can't be computed."""
+    """Before anything is dropped: what the name is for, and what can't be computed."""
     page.fresh()
     label, hint = (page.browser.text(it) for it in ("label[for=name]", "#name-hint"))
     note, whole = page.browser.text(".start .note"), page.browser.text("main")
@@ -196,13 +196,13 @@ def a_tree_can_be_searched(page):
 
 def smallest_texts():
     """The texts of docs/MAPS.md with their codes and lines, and one for the code of texts that are
-    too long; and the first words of each code's meaning."""
+    too long; and the first words of each code's meaning. A text of straw2 would get its mark."""
     for section in re.split(r"^(?=\*\*[XM]\d+\*\*: )", MAPS, flags=re.MULTILINE)[1:]:
         code = re.match(r"\*\*([XM]\d+)\*\*", section)[1]
         meaning = re.sub(r"\[([^\]]*)\]\([^)]*\)", r"\1", " ".join(section.split("\n\n")[0].split("**: ")[1].split())).replace("`", "")
         pairs = re.findall(r"^```\n((?:.*\n)*?)```\n`refused line (\d+) code [XM]\d+`$", section, flags=re.MULTILINE)
         for text, line in pairs or [("#" * 4_194_305, 1)]:
-            yield code, text, int(line), re.split(r"[;.:]( |$)| \(", meaning)[0]
+            yield code, text.replace("alg straw2", "alg straw"), int(line), re.split(r"[;.:]( |$)| \(", meaning)[0]
 
 
 def every_code_is_shown_at_its_line(page):
