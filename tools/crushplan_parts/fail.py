@@ -192,8 +192,8 @@ def fail_each(plan, asked):
             progress.at(len(found))
             # side by side, each with some of them, and no more at once than fit into memory
             shares = [part[it::JOBS] for it in range(JOBS) if part[it::JOBS]]
-            asked = plan.side_by_side(*(lambda own=own: in_turn(plan, start.touched, [(stages_of(plan, of), start.wanted(of), start.before) for _, of in own]) for own in shares))
-            found += [Each(plan, start, levels, *unit, lists) for own, all_ in zip(shares, asked) for unit, lists in zip(own, all_)]
+            placed = plan.side_by_side(*(lambda own=own: in_turn(plan, start.touched, [(stages_of(plan, of), start.wanted(of), start.before) for _, of in own]) for own in shares))
+            found += [Each(plan, start, levels, *unit, lists) for own, all_ in zip(shares, placed) for unit, lists in zip(own, all_)]
     finally:
         progress.end()
     warn_of_room(plan, found[0].failure.summary)
