@@ -1,5 +1,5 @@
-"""The clusters that are foretold: CRUSH maps of list, tree, uniform and mixed buckets, their pools
-and objects, all drawn from a seed."""
+"""The clusters that are foretold: CRUSH maps of list, tree, uniform and mixed buckets, and those
+that Ceph makes by itself, of straw2 buckets; their pools and objects, all drawn from a seed."""
 import copy
 import pathlib
 import sys
@@ -15,7 +15,12 @@ KINDS = {
     "tree": ("tree", "tree", "tree"),
     "uniform": ("uniform", "uniform", "uniform"),
     "mixed": ("list", "tree", "uniform"),
+    **dict.fromkeys(("straw2", "classes", "weights"), ("straw2", "straw2", "straw2")),
 }
+# of the kinds whose maps Ceph makes by itself the mode of its balancer; those that have one have
+# device classes and primary affinities too
+OWN = {"straw2": None, "classes": "upmap", "weights": "crush-compat"}
+CLASSES = ("hdd", "hdd", "ssd")  # of the devices of each host, in turn
 RACKS, HOSTS = 3, 2
 OSDS = (12, 18, 24)
 PROFILE = ["k=2", "m=2", "plugin=jerasure", "technique=reed_sol_van"]
@@ -26,10 +31,16 @@ POOLS = (
     {"pool": "parts", "pg_num": 25, "pgp_num": 25, "pool_type": "erasure", "rule": "hosts-of-parts", "erasure_code_profile": "two-and-two"},
     {"pool": "pairs", "pg_num": 24, "pgp_num": 24, "pool_type": "replicated", "rule": "racks-then-hosts", "size": 4},
 )
+# of Ceph's own maps: each rule's type and class, by 'osd crush rule create-replicated' and, of the
+# erasure pool, 'create-erasure'. The balancer's mode crush-compat wants no device below two rules'
+# roots: there the rule over racks has a class too
+OWN_RULES = {"hosts": ("host", "hdd"), "racks": ("rack", None), "hosts-of-parts": ("host", "hdd"), "devices": ("osd", "ssd")}
+OWN_POOLS = (*POOLS[:3], {**POOLS[3], "rule": "devices", "size": 3})
 ODD_NAMES = ("with a blank", "a/b\\c\"d'e", "ä, 名前, 🦀", "0", "n" * 300)
 # pools whose groups have the same number of objects of one size: how many, and their bytes
 EVEN = {"even": (30, 4096), "parts": (20, 8192)}
 OBJECTS, LARGEST, ALIKE = 800, 30_000, "pairs"  # of the other pools; in one of them all are of one size
+FEWER = 4  # Ceph's own maps have a quarter of these objects
 
 
 class Planned(Map):
@@ -88,19 +99,41 @@ class Layout:
         return found
 
 
+    def places(self):
+        """Returns where each device is, its host and rack, and its weight."""
+        of = {device: (host, rack) for host, rack, devices in self.hosts() for device in devices}
+        return {device: (*of[device], weight) for rack in self.racks for host in rack for device, weight in host}
+
+
+def pools(kind):
+    return OWN_POOLS if kind in OWN else POOLS
+
+
+def class_of(kind, device):
+    """Returns the class that a device gets, or None."""
+    return CLASSES[device % len(CLASSES)] if OWN.get(kind) else None
+
+
+def own_rules(kind):
+    """Returns each rule of a map that Ceph makes: its name, type and class or None."""
+    mode = OWN[kind]
+    return [(name, type_, "hdd" if mode == "crush-compat" and name == "racks" else class_ if mode else None) for name, (type_, class_) in OWN_RULES.items()]
+
+
 def weight(choice):
     return choice.randrange(ONE // 2, 2 * ONE)
 
 
-def objects(choice):
+def objects(choice, kind):
     """Returns the objects of each pool: names with their bytes."""
-    found = {}
-    for pool in POOLS:
+    found, part = {}, FEWER if kind in OWN else 1
+    for pool in pools(kind):
         name, groups = pool["pool"], pool["pg_num"]
         if name in EVEN:
-            found[name] = even_objects(name, groups, *EVEN[name])
+            each, size = EVEN[name]
+            found[name] = even_objects(name, groups, each // part, size)
         else:
-            own = [f"{name}-{it}" for it in range(OBJECTS)] + list(ODD_NAMES)
+            own = [f"{name}-{it}" for it in range(OBJECTS // part)] + list(ODD_NAMES)
             found[name] = [(it, 4096 if name == ALIKE else choice.randrange(1, LARGEST)) for it in own]
     return found
 

@@ -99,8 +99,16 @@ def same(said, is_, what="crushplan"):
 def compared(step):
     """Yields each comparison of a step."""
     command, *names = step.record["words"]
-    yield from COMMANDS[command](step, step.foretold(command, *names))
-    yield "holes of tree buckets", same(step.foretold("check")["holes"], step.record["holes"])
+    yield from COMMANDS[step.record.get("by", command)](step, step.foretold(command, *names))
+    said = step.foretold("check")
+    yield "holes of tree buckets", same(said["holes"], step.record["holes"])
+    if said["lying"]["by"] == "pgs.json":
+        yield "the groups that lie as computed by the cluster's own word", same((said["lying"]["same"], said["lying"]["others"]), (said_groups(step), []))
+
+
+def said_groups(step):
+    """Returns how many groups have an OSD that can say where they lie."""
+    return sum("stale" not in it["states"].split("+") for it in step.before.values())
 
 
 def usage(step, said):
@@ -250,4 +258,16 @@ def compare(step, said):
     yield "groups and copies in all", same((said["moved"], said["copies"]), moved_and_copies(step, step.before, after))
 
 
-COMMANDS = {"usage": usage, "drain": drain, "fail": fail, "upmap": upmap, "compare": compare}
+def weight(step, said):
+    """Compares a device of the CRUSH weight 0, then ended, then removed from the map."""
+    weighed, ended, purged = step.stages
+    for what, own, old, new in (("the weight 0 moves", said["weight_first"], step.before, weighed), ("purge then moves", said["then_purge"], ended, purged)):
+        moved = {it: (old[it]["up"], new[it]["up"]) for it in moved_between(old, new)}
+        yield f"{len(moved)} groups that {what}", same({it["id"]: (it["before"], it["after"]) for it in own["groups"]}, moved)
+        yield f"copies that {what.split(' moves')[0]} writes", same((own["moved"], own["copies"]), moved_and_copies(step, old, new))
+    left = sum(set(said["devices"]) <= set(it["up"]) for it in weighed.values())
+    yield "copies that stay on it", same(said["weight_first"]["left"], left)
+    yield "no more moves once it ends", same(set(), moved_between(weighed, ended))
+
+
+COMMANDS = {"usage": usage, "drain": drain, "fail": fail, "upmap": upmap, "compare": compare, "weight": weight}

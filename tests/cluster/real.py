@@ -67,7 +67,8 @@ osd objectstore = memstore
 memstore device bytes = {bytes_of_osd}
 [mgr]
 keyring = {folder}/mgr/keyring
-# no module is loaded: that takes long, and the balancer makes upmap items of its own
+# no module is loaded but those that a test asks for: that takes long, and the balancer makes upmap
+# items of its own
 mgr module path = {folder}/modules
 [osd]
 keyring = {folder}/osd.$id/keyring
@@ -81,6 +82,7 @@ JOBS = 4
 AT_WORK = {"creating", "unknown", "peering", "activating", "stale", "wait", "laggy", "recovering", "recovery_wait", "recovery_unfound",
            "backfilling", "backfill_wait", "backfill_toofull", "forced_recovery", "forced_backfill", "repair", "snaptrim", "scrubbing"}  # fmt: skip
 NONE = 2147483647
+MODULES = pathlib.Path("/usr/share/ceph/mgr")  # of the manager
 MAPPED = re.compile(r"(\d+)\.([0-9a-f]+) raw \(\[[^]]*\], p-?\d+\) up \(\[([^]]*)\], p-?\d+\) acting \(\[([^]]*)\], p-?\d+\)")
 PERIOD = 1.2  # seconds: a little more than OSDs wait between two reports
 PATIENCE = 300  # seconds for what takes a few on a machine that does nothing else
@@ -130,11 +132,11 @@ def awaited(found, what):
 
 
 class Cluster:
-    """A cluster with the OSDs 0 .. osds-1, each up and in, in a map without buckets. A `with` ends
-    it."""
+    """A cluster with the OSDs 0 .. osds-1, each up and in, in a map without buckets, with the
+    balancer at rest, or without it. A `with` ends it."""
 
-    def __init__(self, folder, osds):
-        self.folder, self.osds = pathlib.Path(folder).resolve(), osds
+    def __init__(self, folder, osds, balancer=False):
+        self.folder, self.osds, self.balancer = pathlib.Path(folder).resolve(), osds, balancer
         self.conf, self.processes, self.client = self.folder / "ceph.conf", {}, None
         try:
             self.start()
@@ -184,6 +186,10 @@ class Cluster:
     def start_manager(self):
         key = self.told("auth get-or-create", entity="mgr.x", caps=["mon", "allow profile mgr", "osd", "allow *", "mds", "allow *"])
         (self.folder / "mgr" / "keyring").write_text(key)
+        if self.balancer:
+            self.told("config set", who="mgr", name="mgr/balancer/active", value="false", force=True)
+            for it in ("mgr_module.py", "mgr_util.py", "balancer"):
+                (self.folder / "modules" / it).symlink_to(MODULES / it)
         self.spawn("mgr.x", "ceph-mgr", "-i", "x")
         awaited(lambda: self.asked("mgr dump")["available"], "the manager")
 

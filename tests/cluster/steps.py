@@ -4,16 +4,19 @@ and after.
 
 step.json has "words", the words of crushplan, in which FOLDER is the step's; "pools"; "holes" of
 tree buckets; "before", the groups; "stages", what was done, each with the groups once the cluster
-had settled; and what a step has beside.
+had settled; and what a step has beside: "by", the comparison, where that isn't its command's.
 """
 import json
 import random
 
 import clusters
 import real
-from make_maps import ONE
+from make_maps import ONE, weight_text
 
-DUMPS = {"crush.json": ("mon", "osd crush dump", {}), "osd.json": ("mon", "osd dump", {}), "df.json": ("mon", "df", {"detail": "detail"}), "osd-df.json": ("mgr", "osd df", {})}
+DUMPS = {
+    "crush.json": ("mon", "osd crush dump", {}), "osd.json": ("mon", "osd dump", {}), "df.json": ("mon", "df", {"detail": "detail"}),
+    "osd-df.json": ("mgr", "osd df", {}), "pgs.json": ("mgr", "pg dump", {"dumpcontents": ["pgs_brief"]}),
+}  # fmt: skip
 
 
 class Story:
@@ -23,7 +26,7 @@ class Story:
         self.cluster, self.kind, self.folder, self.count = cluster, kind, folder, 0
         self.choice = random.Random(f"{kind} {seed}")
         self.layout = clusters.Layout(kind, cluster.osds, self.choice)
-        self.objects = clusters.objects(self.choice)
+        self.objects, self.pools = clusters.objects(self.choice, kind), clusters.pools(kind)
         self.left, self.holes = set(range(cluster.osds)), []
 
     def prepare(self):
@@ -32,9 +35,15 @@ class Story:
         self.set_map(self.layout)
         told("osd set-require-min-compat-client", version="luminous")
         told("osd erasure-code-profile set", name="two-and-two", profile=clusters.PROFILE)
-        for it in clusters.POOLS:
+        self.fill()
+
+    def fill(self):
+        """Makes the pools, and gives three devices a reweight; not where the balancer would undo
+        that."""
+        told = self.cluster.told
+        for it in self.pools:
             told("osd pool create", **it)
-        for device in self.choice.sample(range(self.cluster.osds), 3):
+        for device in self.choice.sample(range(self.cluster.osds), 3) if clusters.OWN.get(self.kind) != "crush-compat" else ():
             told("osd reweight", id=device, weight=self.choice.randrange(ONE // 2, ONE) / ONE)
         self.cluster.settled()
         for pool, objects in self.objects.items():
@@ -52,7 +61,7 @@ class Story:
 
     def dump(self, folder):
         """Writes the dumps of the cluster, which has settled, once they have all objects."""
-        wanted = {number: len(self.objects[it["pool"]]) for number, it in enumerate(clusters.POOLS, 1)}
+        wanted = {number: len(self.objects[it["pool"]]) for number, it in enumerate(self.pools, 1)}
 
         def current():
             groups = self.cluster.groups()
@@ -161,7 +170,7 @@ class Story:
             up = [it for it in groups[key]["up"] if it is not None]
             old = self.choice.choice(up)
             used = {place[it] for it in up if it != old}
-            others = [it for it in place if it not in up and place[it] not in used and place[it][0] == place[old][0]]
+            others = [it for it in place if it not in up and place[it] not in used and place[it][0] == place[old][0] and self.class_of(it) == self.class_of(old)]
             if others:
                 items[key] = (old, self.choice.choice(others))
         lines = [f"ceph osd pg-upmap-items {pool}.{group:x} {old} {new}" for (pool, group), (old, new) in items.items()]
@@ -175,6 +184,9 @@ class Story:
     def map_changed(self):
         layout = self.layout.changed(self.choice)
         return self.step("compare", ["compare", "FOLDER/new.txt", "--groups"], ("ceph osd setcrushmap", lambda: self.set_map(layout)), files={"new.txt": layout.map().text()})
+
+    def class_of(self, device):
+        return clusters.class_of(self.kind, device)
 
     def device_removed(self, device):
         return self.step("remove", ["drain", f"osd.{device}", "--groups"], self.out([device]), self.ended([device]), self.purged([device]))
@@ -191,6 +203,125 @@ class Story:
         left = sorted(self.left)
         self.cluster.end([f"osd.{it}" for it in left])
         return {it: self.cluster.stored(it) for it in left}
+
+
+class OwnStory(Story):
+    """A cluster whose map Ceph makes by itself, by its commands alone."""
+
+    def prepare(self):
+        told, mode = self.cluster.told, clusters.OWN[self.kind]
+        told("osd set-require-min-compat-client", version="luminous")
+        for device, (host, rack, weight) in self.layout.places().items():
+            told("osd crush create-or-move", id=device, weight=weight / ONE, args=self.location(host, rack))
+            if self.class_of(device):
+                told("osd crush set-device-class", **{"class": self.class_of(device)}, ids=[str(device)])
+        for name, type_, class_ in clusters.own_rules(self.kind):
+            if name == "hosts-of-parts":
+                profile = [*clusters.PROFILE, f"crush-failure-domain={type_}", *([f"crush-device-class={class_}"] if class_ else [])]
+                told("osd erasure-code-profile set", name="two-and-two", profile=profile)
+                told("osd crush rule create-erasure", name=name, profile="two-and-two")
+            else:
+                told("osd crush rule create-replicated", name=name, root="default", type=type_, **({"class": class_} if class_ else {}))
+        for device in self.choice.sample(range(self.cluster.osds), 4) if mode else ():
+            told("osd primary-affinity", id=device, weight=self.choice.choice((0.0, 0.25, 0.5)))
+        self.fill()
+
+    def location(self, host, rack):
+        return ["root=default", f"rack={rack}", f"host={host}"]
+
+    def all(self):
+        self.prepare()
+        yield self.located()
+        mode = clusters.OWN[self.kind]
+        if mode == "crush-compat":
+            yield self.weights_set()
+        if mode:
+            yield self.balanced(mode)
+        yield self.failure()
+        yield self.upmaps()
+        yield self.map_changed()
+        yield self.reweighted()
+        devices = self.choice.sample(sorted(self.left), 2)
+        yield self.device_removed(devices[0])
+        yield self.weight_first(devices[1])
+        yield self.host_drained(None)
+
+    # ---- changed maps
+
+    def dumped(self):
+        """Returns the dump of the cluster's map."""
+        return self.cluster.told("osd crush dump", format="json")
+
+    def edited(self, *edits):
+        """Returns the cluster's map as crushtool changes it, compiled and as a dump."""
+        compiled, other = self.folder / "map.bin", self.folder / "new.bin"
+        compiled.write_bytes(self.cluster.told_bytes("osd getcrushmap"))
+        for it in edits:
+            real.run("crushtool", "-i", compiled, *it, "-o", other)
+            other.replace(compiled)
+        return compiled.read_bytes(), real.run("crushtool", "-i", compiled, "--dump")
+
+    def map_changed(self):
+        """Sets a map in which a device is in another host, and two have another weight."""
+        before, layout, edits = self.layout.places(), self.layout.changed(self.choice), []
+        for device, (host, rack, weight) in layout.places().items():
+            if before[device][:2] != (host, rack):
+                edits.append(("--move", f"osd.{device}", *(word for it in self.location(host, rack) for word in ("--loc", *it.split("=")))))
+            if before[device][2] != weight:
+                edits.append(("--reweight-item", f"osd.{device}", weight_text(weight)))
+        compiled, dump = self.edited(*edits)
+        self.layout = layout
+        return self.compared("compare", "ceph osd setcrushmap", lambda: self.cluster.told("osd setcrushmap", given=compiled), dump)
+
+    def reweighted(self):
+        """Gives a device another CRUSH weight."""
+        device, weight = self.choice.choice(sorted(self.left)), clusters.weight(self.choice)
+        _, dump = self.edited(("--reweight-item", f"osd.{device}", weight_text(weight)))
+        said = f"ceph osd crush reweight osd.{device} {weight_text(weight)}"
+        return self.compared("reweight", said, lambda: self.cluster.told("osd crush reweight", name=f"osd.{device}", weight=weight / ONE), dump)
+
+    def compared(self, name, said, does, dump=None):
+        """Does a change of the map; without a dump of the new one, that is known when it is done."""
+        folder = self.step(name, ["compare", "FOLDER/new.json", "--groups"], (said, does), files={"new.json": dump} if dump else {})
+        if not dump:
+            (folder / "new.json").write_text(self.dumped())
+        return folder
+
+    # ---- weight sets, and the balancer
+
+    def weights_set(self):
+        """Makes the weight set of all pools, with other weights of a third of the devices."""
+        weights = {it: clusters.weight(self.choice) for it in self.choice.sample(sorted(self.left), self.cluster.osds // 3)}
+
+        def make():
+            self.cluster.told("osd crush weight-set create-compat")
+            for device, weight in weights.items():
+                self.cluster.told("osd crush weight-set reweight-compat", item=f"osd.{device}", weight=[weight / ONE])
+
+        return self.compared("weights", f"ceph osd crush weight-set create-compat, {len(weights)} of reweight-compat", make)
+
+    def balanced(self, mode):
+        """Does what the balancer finds, if it finds anything."""
+        told = self.cluster.told
+        for name, value in (("target_max_misplaced_ratio", "0.5"), ("mgr/balancer/upmap_max_deviation", "1"), ("mgr/balancer/upmap_max_optimizations", "30")):
+            told("config set", who="mgr", name=name, value=value, force=True)
+        told("balancer mode", "mgr", mode=mode)
+        found = self.cluster.answer({"to": "mgr", "command": {"prefix": "balancer optimize", "plan": "found"}, "input": ""})
+        done = [] if found["status"] < 0 else [("the balancer's plan", lambda: told("balancer execute", "mgr", plan="found"))]
+        if mode == "crush-compat":
+            said, does = done[0] if done else ("nothing", lambda: None)
+            return self.compared("balance", said, does)
+        items = json.loads(told("balancer dump", "mgr", plan="found")) if done else {}
+        lines = [f"ceph osd rm-pg-upmap-items {it}" for it in items.get("old_pg_upmap_items", ())]
+        lines += [f"ceph osd pg-upmap-items {it['pgid']} " + " ".join(f"{of['from']} {of['to']}" for of in it["mappings"]) for it in items.get("new_pg_upmap_items", ())]
+        return self.step("balance", ["upmap", "FOLDER/commands"], *(done or [("nothing", lambda: None)]), files={"commands": "".join(f"{it}\n" for it in lines)})
+
+    # ---- removals
+
+    def weight_first(self, device):
+        """Gives a device the CRUSH weight 0, ends it and removes it."""
+        weigh = f"ceph osd crush reweight osd.{device} 0", lambda: self.cluster.told("osd crush reweight", name=f"osd.{device}", weight=0.0)
+        return self.step("weight", ["drain", f"osd.{device}", "--groups"], weigh, self.ended([device]), self.purged([device]), by="weight")
 
 
 def text_of(record):
