@@ -178,6 +178,7 @@ case "$*" in
 "osd crush dump -f json") cat "{folder}/crush.json" ;;
 "df detail -f json") echo '{{"pools":[]}}' ;;
 "osd df -f json") {osd_df} ;;
+"pg dump pgs_brief -f json") echo '{{"pg_ready":true,"pg_stats":[]}}' ;;
 "osd getcrushmap -o "*) echo map >"$4" ;;
 *) echo "unknown: $*" >&2; exit 22 ;;
 esac
@@ -195,7 +196,7 @@ def fetched(runner, folder):
         it.chmod(0o755)
     code, out, err = runner.run("fetch", folder / "new", "--ceph", ceph, "--crushtool", crushtool)
     equals("status", (code, err), (0, ""))
-    equals("files", sorted(os.listdir(folder / "new")), ["crush.json", "df.json", "map.txt", "osd-df.json", "osd.json"])
+    equals("files", sorted(os.listdir(folder / "new")), ["crush.json", "df.json", "map.txt", "osd-df.json", "osd.json", "pgs.json"])
     equals("osd.json", (folder / "new" / "osd.json").read_bytes(), (folder / "osd.json").read_bytes())
     equals("the folder is read", runner.said("check", folder / "new")["status"], 0)
     ceph.write_text(FAKE.format(folder=folder, osd_df="echo no manager >&2; exit 1"))

@@ -43,7 +43,10 @@ def takes_fault(map_, rule):
             return "local tries", f"its rule {rule.name} has the step {step[0]} {step[1]}, which crushcalc doesn't compute: a rule without it can be"
     own = next((it for it in LOCAL if map_.tunables.get(it)), None)
     if own:
-        return "local tries", f"{map_.file} has the tunable {own} {map_.tunables[own]}, of Ceph's first releases, which crushcalc doesn't compute: 'ceph osd crush tunables bobtail' and those behind it are without it, and move much"
+        return "local tries", (
+            f"{map_.file} has the tunable {own} {map_.tunables[own]}, of Ceph's first releases, which crushcalc doesn't "
+            "compute: 'ceph osd crush tunables bobtail' and those behind it are without it, and move much"
+        )
     return None
 
 
@@ -57,7 +60,8 @@ def buckets_fault(map_, rule):
     if others:
         algs = sorted({it.alg for it in others})
         then = f": {NEXT[algs[0]]}" if algs[0] in NEXT else ""
-        return algs[0], f"below its rule {rule.name} are {' and '.join(algs)} buckets ({some([it.name for it in others], 3)}), which crushcalc doesn't compute{then}"
+        names = some([it.name for it in others], 3)
+        return algs[0], f"below its rule {rule.name} are {' and '.join(algs)} buckets ({names}), which crushcalc doesn't compute{then}"
     others = [it.name for it in buckets if it.hash not in ("rjenkins1", "0")]
     if others:
         return "hash", f"the buckets {some(others, 3)} have another hash than rjenkins1"

@@ -98,13 +98,18 @@ class CrushMap:
             return [item] if item >= 0 else []
         return [device for inner, _ in self.buckets[item].items for device in self.below(inner, seen)]
 
-    def buckets_below(self, item, found=None):
+    def buckets_below(self, item):
         """Returns the ids of the buckets at and below an item."""
-        found = {} if found is None else found
-        if item in self.buckets and item not in found:
-            found[item] = True
-            for inner, _ in self.buckets[item].items:
-                self.buckets_below(inner, found)
+        found = {}
+
+        def visit(id_):
+            found[id_] = True
+            for inner, _ in self.buckets[id_].items:
+                if inner in self.buckets and inner not in found:
+                    visit(inner)
+
+        if item in self.buckets:
+            visit(item)
         return list(found)
 
     def cycle(self):

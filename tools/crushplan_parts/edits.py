@@ -12,7 +12,10 @@ def copied(map_):
     found.buckets = {id_: copy.copy(it) for id_, it in map_.buckets.items()}
     for it in found.buckets.values():
         it.items = list(it.items)
-    found.weight_sets = {key: WeightSet({id_: [list(row) for row in own] for id_, own in it.rows.items()}, it.with_ids, it.rounded) for key, it in map_.weight_sets.items()}
+    found.weight_sets = {}
+    for key, it in map_.weight_sets.items():
+        rows = {id_: [list(row) for row in own] for id_, own in it.rows.items()}
+        found.weight_sets[key] = WeightSet(rows, it.with_ids, it.rounded)
     return found
 
 

@@ -193,7 +193,9 @@ def fail_each(plan, asked):
             # side by side, each with some of them, and no more at once than fit into memory
             shares = [part[it::JOBS] for it in range(JOBS) if part[it::JOBS]]
             placed = plan.side_by_side(*(lambda own=own: in_turn(plan, start.touched, [(stages_of(plan, of), start.wanted(of), start.before) for _, of in own]) for own in shares))
-            found += [Each(plan, start, levels, *unit, lists) for own, all_ in zip(shares, placed) for unit, lists in zip(own, all_)]
+            for unit, lists in ((unit, lists) for own, all_ in zip(shares, placed) for unit, lists in zip(own, all_)):
+                found.append(Each(plan, start, levels, *unit, lists))
+                progress.at(len(found))
     finally:
         progress.end()
     warn_of_room(plan, found[0].failure.summary)

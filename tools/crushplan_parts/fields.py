@@ -50,6 +50,8 @@ class Node:
     def of_kind(self, kind):
         """Returns the value, which has to be of a kind."""
         value = self.value
+        if type(value) is kind and kind is not decimal.Decimal:
+            return value
         if kind is decimal.Decimal and isinstance(value, int) and not isinstance(value, bool):
             return decimal.Decimal(value)
         if not isinstance(value, kind) or isinstance(value, bool):
@@ -69,6 +71,9 @@ class Node:
 
     def get(self, name, kind, default=REQUIRED):
         """Returns the value of a member; where it is missing the default, if there is one."""
+        value = self.value.get(name) if type(self.value) is dict else None
+        if type(value) is kind and kind is not decimal.Decimal:
+            return value
         if default is not REQUIRED and not self.has(name):
             return default
         return self.at(name).of_kind(kind)

@@ -45,26 +45,42 @@ class Compared:
 
     def lines(self):
         """Returns the groups that lie otherwise, in words."""
-        return [f"{pool.group_name(group)} up {devices_text(said.up)} here {devices_text(it.up)}" + (f", primary {said.primary} here {it.primary}" if said.up == it.up else "") + f": {why}" for pool, group, said, it, why in self.others]
+        found = []
+        for pool, group, said, it, why in self.others:
+            primary = f", primary {said.primary} here {it.primary}" if said.up == it.up else ""
+            found.append(f"{pool.group_name(group)} up {devices_text(said.up)} here {devices_text(it.up)}{primary}: {why}")
+        return found
 
     def sentence(self):
         words = f"{self.same:,} of {counted(self.count, 'group')} {'lies' if self.count == 1 else 'lie'} as computed"
         if self.silent:
             words += f"; of {len(self.silent):,} the cluster says nothing ({some(self.silent, MOST_NAMED)})"
         if self.others:
-            words += f"; {len(self.others):,} {'differs' if len(self.others) == 1 else 'differ'}: " + "; ".join(self.lines()[:MOST_NAMED]) + (f"; and {len(self.others) - MOST_NAMED:,} more" if len(self.others) > MOST_NAMED else "")
+            more = [f"and {len(self.others) - MOST_NAMED:,} more"] * (len(self.others) > MOST_NAMED)
+            words += f"; {len(self.others):,} {'differs' if len(self.others) == 1 else 'differ'}: "
+            words += "; ".join(self.lines()[:MOST_NAMED] + more)
         return words
 
     def doubt(self):
         """Returns why no answer holds, or None."""
         if not self.others:
             return None
-        return f"{counted(len(self.others), 'group')} {'lies' if len(self.others) == 1 else 'lie'} otherwise in the cluster ({some(self.lines(), 1)}); 'crushplan check' says more"
+        verb = "lies" if len(self.others) == 1 else "lie"
+        return (
+            f"{counted(len(self.others), 'group')} {verb} otherwise in the cluster ({some(self.lines(), 1)}); "
+            "'crushplan check' says more"
+        )
 
     def said(self):
         return {
             "groups": self.count, "same": self.same, "silent": self.silent,
-            "others": [{"pool": pool.id, "group": group, "id": pool.group_name(group), "up": said.up, "up_primary": said.primary, "here": it.up, "here_primary": it.primary, "why": why} for pool, group, said, it, why in self.others],
+            "others": [
+                {
+                    "pool": pool.id, "group": group, "id": pool.group_name(group), "up": said.up, "up_primary": said.primary,
+                    "here": it.up, "here_primary": it.primary, "why": why,
+                }
+                for pool, group, said, it, why in self.others
+            ],
         }  # fmt: skip
 
 
@@ -89,7 +105,10 @@ def doubt_by_usage(plan, usages):
             here = {device: it for device, it in usage.entries.items() if it}
             if said is not None and said != here:
                 device = min(it for it in {*said, *here} if said.get(it) != here.get(it))
-                return f"osd.{device} has {counted(said.get(device, 0), 'copy', 'copies')} of pool {pool.name} by {PGS}, and {here.get(device, 0):,} as computed; 'crushplan check' says more"
+                return (
+                    f"osd.{device} has {counted(said.get(device, 0), 'copy', 'copies')} of pool {pool.name} by {PGS}, "
+                    f"and {here.get(device, 0):,} as computed; 'crushplan check' says more"
+                )
         return None
     found = by_device(plan, usages)
     return f"{some(found, 1)}; 'crushplan check' says more" if found else None

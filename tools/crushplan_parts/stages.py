@@ -23,7 +23,9 @@ class Stages:
 
     def begun(self, pools=None, later=()):
         """Returns a run on the cluster as it is by now, for some of the pools; `later` are the texts of the next map."""
-        run = self.plan.run(self.pools if pools is None else pools, {it: dict(own) for it, own in self.pairs.items()}, self.exceptions(), [self.first, *self.texts, *later])
+        pairs = {it: dict(own) for it, own in self.pairs.items()}
+        maps = [self.first, *self.texts, *later]
+        run = self.plan.run(self.pools if pools is None else pools, pairs, self.exceptions(), maps)
         if self.changed:
             run.set_states(self.changed)
         for _ in self.texts:
