@@ -90,8 +90,8 @@ async function stagesOn(cluster, group, copy, stages, how, work) {
 // exceptions Ceph would remove. `change` of a stage changes the copy, and gives the version on
 // which it is looked at, if another; `states` are those of devices then; `then` gives what decides
 // which exceptions are removed: the states, and the devices that have another one, or another map.
-// `later` are the texts of another map, which the copies get; `how` says whether another order alone
-// is no move in a replicated pool (`unordered`).
+// `later` are the texts of another map, which the copies get; `how` says whether another order
+// alone is no move in a replicated pool (`unordered`).
 export async function stagesOf(cluster, pools, stages, work, later = null, how = {}) {
     const found = stages.map(() => Object.assign([], { removed: 0 }));
     for (const group of groupsOf(cluster, pools, later)) {

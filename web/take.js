@@ -65,8 +65,8 @@ export function crushIn(files, there) {
 }
 
 // The map of the files: its texts for the service, the first one alone where it is no dump, and the
-// dump where it is one. `pools` are those that it is for, where no osd.json says them: of those that
-// can't be computed `left` says why.
+// dump where it is one. `pools` are those that it is for, where no osd.json says them: of those
+// that can't be computed `left` says why.
 export async function mapIn(files, osd, there, pools = []) {
     const dump = crushIn(files, there);
     if (!dump) return files.text && { name: files.text.name, ...marked(files.text.text), places: {}, shown: 1, dump: null, get texts() { return [this.text]; } };
@@ -181,8 +181,8 @@ async function removeOthers(tenant, before, pools, work) {
     }
 }
 
-// Sets what osd.json says on a cluster that has its map. `map` is that of the files, with its texts,
-// or null where osd.json came alone. `open` opens the cluster anew.
+// Sets what osd.json says on a cluster that has its map. `map` is that of the files, with its
+// texts, or null where osd.json came alone. `open` opens the cluster anew.
 export async function takeOsd(tenant, osd, map, fresh, open, work) {
     const before = known(tenant).sides;
     if (!map && (known(tenant).texts > 1 || await hasSides(tenant))) throw new Fault("This cluster's map has several texts: drop crush.json too.");

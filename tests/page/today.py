@@ -1,7 +1,7 @@
-"""Clusters as Ceph makes them today, by all the files that `crushplan fetch` writes: straw2, trees of
-classes, rules with several takes, weight sets, whole upmap lists, set primaries, affinities, more
-upmap items than the service takes at once, bytes, and the cluster's own word of where its groups lie.
-What the page shows is what crushplan prints."""
+"""Clusters as Ceph makes them today, by all the files that `crushplan fetch` writes: straw2, trees
+of classes, rules with several takes, weight sets, whole upmap lists, set primaries, affinities, more
+upmap items than the service takes at once, bytes, and the cluster's own word of where its groups
+lie. What the page shows is what crushplan prints."""
 import json
 import random
 import tempfile
