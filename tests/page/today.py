@@ -269,14 +269,14 @@ def upmap_lines_with_set_primaries_are_tried(page, folder):
 def more_upmap_items_than_are_taken_at_once(page, folder):
     """A pool with more than 1,024 pairs: set part by part in a copy, as crushplan does."""
     today, program = Today(3, 4, 4, 7), page.program
-    pools = (("photos", 1, 3, 2, 0, 2048),)
+    pools = (("photos", 1, 3, 2, 0, 512),)
     osd = today.osd(pools, {5: (0.5, True)})
     (folder / "crush.json").write_text(json.dumps(today.crush()))
     (folder / "osd.json").write_text(json.dumps(osd))
     items = []
-    for it in plan(program, folder, "usage", "--groups")["groups"][:1300]:
-        free = [of for of in range(today.count) if of // 4 not in {device // 4 for device in it["up"]}]
-        items.append({"pgid": it["id"], "mappings": [{"from": it["up"][0], "to": today.chance.choice(free)}]})
+    for it in plan(program, folder, "usage", "--groups")["groups"][:400]:
+        hosts = [of for of in range(12) if of not in {device // 4 for device in it["up"]}]
+        items.append({"pgid": it["id"], "mappings": [{"from": old, "to": 4 * host + today.chance.randrange(4)} for old, host in zip(it["up"], today.chance.sample(hosts, 3))]})
     osd["pg_upmap_items"] = items
     files_of(folder, program, today.crush(), osd, 0.05)
     dropped(page, folder)
@@ -286,7 +286,7 @@ def more_upmap_items_than_are_taken_at_once(page, folder):
     page.browser.named("form[aria-label='A group'] button", "Where is it?").click()
     found = page.browser.run("return [...document.querySelectorAll('#found [data-device]')].map((it) => Number(it.dataset.device))") if page.browser.one("#found") else []
     lies = plan(program, folder, "locate", "--group", "1.9")["groups"][0]["up"]
-    return first(None if "1,300 upmap items" in said and "2,048 of 2,048 groups lie as computed" in said else said, unlike(found, lies, "group 1.9:"), same_usage(page, program, folder), same_drain(page, program, folder, ["host7"]))
+    return first(None if "1,200 upmap items" in said and "512 of 512 groups lie as computed" in said else said, unlike(found, lies, "group 1.9:"), same_usage(page, program, folder), same_drain(page, program, folder, ["host7"]))
 
 
 @with_folder
