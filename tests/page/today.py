@@ -8,7 +8,7 @@ import tempfile
 from pathlib import Path
 
 from clusters import ONE, TUNABLES, TYPES, Cluster
-from kept import field, groups_shown, plan, same_compare, same_drain, same_failure, same_usage
+from kept import dropped, field, groups_shown, plan, same_compare, same_drain, same_failure, same_usage
 from page import first, unlike
 
 GIB = 1 << 30
@@ -100,16 +100,6 @@ def files_of(folder, program, crush, osd, full=0.6):
     nodes = [{"id": it["osd"], "name": f"osd.{it['osd']}", "type": "osd", "kb": 80 * GIB // 1024, "kb_used": round((counts.get(it["osd"], 0) * 3 * full + 4) * GIB / 1024), "pgs": counts.get(it["osd"], 0)} for it in osd["osds"]]
     (folder / "osd-df.json").write_text(json.dumps({"nodes": nodes, "stray": [], "summary": {}}))
     return groups
-
-
-def dropped(page, folder, names=("crush.json", "osd.json", "df.json", "osd-df.json", "pgs.json")):
-    """A new tenant of the files."""
-    tenant = page.fresh()
-    files = [((folder / it).read_text(), it) for it in names if (folder / it).exists()]
-    page.browser.drop(*files[0], *files[1:])
-    page.browser.until(lambda: "The cluster is there" in page.browser.text("#said"), "the dumps aren't taken")
-    page.settled()
-    return tenant
 
 
 def with_folder(case):
