@@ -197,6 +197,8 @@ export async function takeOsd(tenant, osd, map, fresh, open, work) {
     work.step("Setting the states of devices");
     const states = await setAllStates(cluster, statesOf(osd, on), { whole: fresh }), lacking = [...osd.states.keys()].filter((id) => !on.byId.has(id));
     if (lacking.length) lines.push(`${osd.file} has devices that the map lacks; they hold nothing: ${some(lacking.map((it) => `osd.${it}`))}`);
+    const missing = [...on.devices.values()].filter((it) => it.buckets.length && !osd.states.has(it.id));
+    if (missing.length) lines.push(`the map has devices that ${osd.file} lacks; they count as out and down: ${some(missing.map((it) => `osd.${it.id}`))}`);
     if (map && !dump) lines.push(`${map.name} has weights that 'crushtool -d' rounded to three decimals; crush.json ('ceph osd crush dump -f json') has exact ones`);
     // the tenant has the pools of the dump then, and no other
     await removeOthers(tenant, map ? before : {}, pools, work);
