@@ -195,23 +195,22 @@ def uneven_groups(runner, folder):
 
 
 def by_itself(runner, folder):
-    """What Ceph doesn't do by itself is said: by flags, of whole racks, of primaries that were set,
+    """What Ceph doesn't do by itself is said: by flags, of whole racks,
     and that not all groups have as many bytes."""
     crush = crush_dump(hosts=6)
     hosts = crush["buckets"][1:]
     racks = [bucket(-10 - it, f"rack{it}", 3, "list", [(host["id"], host["weight"]) for host in hosts[it * 2 : it * 2 + 2]]) for it in range(3)]
     crush["buckets"] = [bucket(-1, "default", 10, "list", [(it["id"], it["weight"]) for it in racks]), *racks, *hosts]
     osd = osd_dump(18, [pool(1, "photos", pg_num=48)])
-    write(folder, crush, {**osd, "flags": "noout,sortbitwise,norebalance", "pg_upmap_primaries": [{"pgid": "1.a", "primary_osd": 4}]}, df_json=df("photos"))
+    write(folder, crush, {**osd, "flags": "noout,sortbitwise,norebalance"}, df_json=df("photos"))
     equals("a drain", [it for it in runner.said("drain", folder, "host0")["warnings"] if "flag" in it], ["osd.json has the flag norebalance: until Ceph is without it, it doesn't do all of this"])
     equals("a failure", [it for it in runner.said("fail", folder, "host0")["warnings"] if "flag" in it], ["osd.json has the flags noout, norebalance: until Ceph is without them, it doesn't do all of this"])
-    write(folder, osd={**osd, "flags": "sortbitwise,purged_snapdirs", "pg_upmap_primaries": [{"pgid": "1.a", "primary_osd": 4}]})
+    write(folder, osd={**osd, "flags": "sortbitwise,purged_snapdirs"})
     equals("other flags", [it for words in (("drain", "host0"), ("fail", "host0")) for it in runner.said(words[0], folder, words[1])["warnings"] if "flag" in it], [])
     for words, named in ((("rack1",), "rack1"), (("--each", "rack"), "rack0, rack1, rack2"), (("default",), "default"), (("host0",), None), (("--each", "host"), None)):
         found = [it.rsplit(": ", 1)[1] for it in runner.said("fail", folder, *words)["warnings"] if "mon_osd_down_out_subtree_limit" in it]
         equals(f"{words}: racks", found, [named] if named else [])
     notes = {it["kind"]: it for it in runner.said("locate", folder, "photos", "cat.jpg", status=0)["notes"]}
-    equals("primaries", [notes["pg_upmap_primaries"][it] for it in ("pools", "groups", "devices")], [[1], ["1.a"], [4]])
     wants("48 groups, which is no power of two" in notes["pg_num"]["text"], notes["pg_num"]["text"])
     write(folder, osd=osd_dump(18))
     equals("a power of two", [it["kind"] for it in runner.said("usage", folder)["notes"]], [])

@@ -79,7 +79,8 @@ def cluster(folder, **changes):
 def text_of(crush):
     """A map's text as `crushtool -d` writes it, with three decimals."""
     names = {it["id"]: it["name"] for it in (*crush["devices"], *crush["buckets"])}
-    lines = [f"tunable {name} {value}" for name, value in crush["tunables"].items() if name != "profile"]
+    lines = ["# crushcalc: straw2"] * any(it["alg"] == "straw2" for it in crush["buckets"])
+    lines += [f"tunable {name} {value}" for name, value in crush["tunables"].items() if name != "profile"]
     lines += [f"device {it['id']} {it['name']}" for it in crush["devices"]] + [f"type {number} {name}" for number, name in TYPES]
     for it in sorted(crush["buckets"], key=lambda of: of["type_id"]):
         items = [f"\titem {names[of['id']]} weight {of['weight'] / ONE:.3f}" + (f" pos {of['pos']}" if it["alg"] == "tree" else "") for of in it["items"]]

@@ -17,20 +17,20 @@ def kinds(said, name="uncomputed"):
 # ---- what can't be computed
 
 
-def straw2(runner, folder):
-    """A root of straw2 buckets is named with its pool and devices; a pool on another root is
+def straw(runner, folder):
+    """A root of straw buckets is named with its pool and devices, and what to do; a pool on another root is
     computed."""
     crush = crush_dump()
     crush["devices"] += [{"id": it, "name": f"osd.{it}"} for it in (12, 13, 14)]
-    crush["buckets"] += [bucket(-20 - it, f"fast{it}", 1, "straw2", [(12 + it, ONE)]) for it in range(3)]
-    crush["buckets"].append(bucket(-30, "fast", 10, "straw2", [(-20 - it, ONE) for it in range(3)]))
+    crush["buckets"] += [bucket(-20 - it, f"fast{it}", 1, "straw", [(12 + it, ONE)]) for it in range(3)]
+    crush["buckets"].append(bucket(-30, "fast", 10, "straw", [(-20 - it, ONE) for it in range(3)]))
     crush["rules"].append(rule(1, "fast_rule", ({**STEPS[0], "item": -30, "item_name": "fast"}, *STEPS[1:])))
     write(folder, crush, osd_dump(15, [pool(1, "photos"), pool(2, "index", crush_rule=1)]))
     said = runner.said("check", folder, status=1)
     equals("pools", [(it["pool"], it["computed"]) for it in said["pools"]], [(1, True), (2, False)])
     note = said["uncomputed"][0]
-    equals("the note", (note["kind"], note["pools"], note["devices"]), ("straw2", [2], [12, 13, 14]))
-    wants("fast" in note["text"], note["text"])
+    equals("the note", (note["kind"], note["pools"], note["devices"]), ("straw", [2], [12, 13, 14]))
+    wants("fast" in note["text"] and "set-all-straw-buckets-to-straw2" in note["text"], note["text"])
     equals("a drain that has nothing to do with it", runner.said("drain", folder, "host0")["status"], 0)
     equals("a drain that has", runner.said("drain", folder, "fast1")["status"], 2)
     said = runner.said("drain", folder, "fast1", status=2)
@@ -39,18 +39,22 @@ def straw2(runner, folder):
     equals("each host", {it["name"]: it["status"] for it in said["each"]}, {**{f"host{it}": 0 for it in range(4)}, **{f"fast{it}": 2 for it in range(3)}})
     equals("its answer", said["answer"], "unknown: of 7 hosts 4 can fail, and every copy has a device; of 3 not all can be computed.")
     rows = [it.split() for it in runner.run("fail", folder, "--each", "host")[1].splitlines()]
-    equals("which", {it[0]: it[-1] for it in rows if it and it[0].startswith("fast")}, {f"fast{it}": "part" for it in range(3)})
+    equals("which", {it[0]: it[2:] for it in rows if it and it[0].startswith("fast")}, {f"fast{it}": ["?"] * 8 + ["nothing"] for it in range(3)})
+    equals("their numbers", {it["copies"] for it in said["each"] if it["name"].startswith("fast")}, {None})
     equals("usage has the devices of pools that are computed", [it["device"] for it in runner.said("usage", folder, status=0)["rows"]], list(range(12)))
     wants("osd.12, osd.13, osd.14 have copies of pools alone that aren't computed" in runner.run("usage", folder)[1], "the others aren't named")
     wants("not computed: pool index (2): below" in runner.run("usage", folder)[1] and "has to do with osd.12, osd.13, osd.14" in runner.run("usage", folder)[1], "nor the pool")
-    runner.refused("usage", folder, "--pool", "index", has="pool index isn't computed: below its rule fast_rule are straw2 buckets")
-    crush["buckets"] = [{**it, "alg": "straw2"} for it in crush["buckets"]]
+    runner.refused("usage", folder, "--pool", "index", has="pool index isn't computed: below its rule fast_rule are straw buckets")
+    crush["buckets"] = [{**it, "alg": "straw"} for it in crush["buckets"]]
     write(folder, crush)
-    equals("a whole cluster of straw2", runner.said("check", folder, status=2)["answer"], "no: 0 of 2 pools can be computed.")
+    equals("a whole cluster of straw", runner.said("check", folder, status=2)["answer"], "no: 0 of 2 pools can be computed.")
     equals("and a drain of it", runner.said("drain", folder, "host0")["status"], 2)
     for words in (("drain", "host0"), ("fail", "host0"), ("fail", "--each", "host")):
         text = runner.run(words[0], folder, *words[1:])[1]
         wants(text.startswith("unknown: no pool can be computed.\n\nnot computed: ") and "move" not in text, text)
+    said, text = runner.said("compare", folder, folder / "crush.json", status=2), runner.run("compare", folder, folder / "crush.json")[1]
+    equals("and a compare", (said["answer"], said["moved"]), ("unknown: no pool can be computed.", None))
+    wants(text.startswith("unknown: no pool can be computed.\n\nnot computed: "), text)
     equals("and its usage", runner.said("usage", folder, status=2)["answer"], "unknown: no pool can be computed.")
 
 
@@ -66,16 +70,15 @@ def classes(runner, folder):
     write(folder, crush, osd_dump())
     said = runner.said("usage", folder, "--groups", status=0)
     equals("groups", [it["raw"] for it in said["groups"]], Placed(shadow_text(), pool=1, size=3, pg_num=64).raw)
-    said = runner.said("drain", folder, "host1", status=0)
-    equals("a purge isn't computed", kinds(said, "notes"), ["class"])
-    wants("osd purge" not in runner.run("drain", folder, "host1")[1], "a purge of which nothing is known")
+    said = runner.said("drain", folder, "host1", "--groups", status=0)
+    drained = Placed(shadow_text(), pool=1, size=3, pg_num=64, reweights={3: 0, 4: 0, 5: 0})
+    purged = Placed(shadow_text(gone=1), pool=1, size=3, pg_num=64)
+    equals("a purge", [(it["group"], it["before"], it["after"]) for it in said["purge"]["groups"]], drained.moves(purged))
     crush["rules"].append(rule(1, "all", STEPS))
     write(folder, crush, osd_dump(pools=[pool(1, "photos"), pool(2, "mail", crush_rule=1)]))
     said, text = runner.said("drain", folder, "host1", status=0), runner.run("drain", folder, "host1")[1]
-    mail = next(it["copies"] for it in said["pools"] if it["name"] == "mail")
-    wants(0 < mail < said["copies"], said["pools"])
-    # the copies of photos, whose purge isn't known, stand in neither sum
-    for sentence, sum_ in (("osd purge", mail + said["purge"]["copies"]), ("crush reweight", said["weight_first"]["copies"] + said["weight_first"]["then_purge"]["copies"])):
+    equals("both pools", [it["pool"] for it in said["pools"] if it["copies"]], [1, 2])
+    for sentence, sum_ in (("osd purge", said["copies"] + said["purge"]["copies"]), ("crush reweight", said["weight_first"]["copies"] + said["weight_first"]["then_purge"]["copies"])):
         wants(any(sentence in it and f"in all {sum_:,}" in it for it in text.splitlines()), f"no {sentence} with {sum_} in all: {text}")
     crush["rules"].pop()
     write(folder, crush, osd_dump())
@@ -86,12 +89,16 @@ def classes(runner, folder):
     equals("the map", said["map"], {"file": "map.txt", "exact": False})
 
 
-def shadow_text():
-    """The map of a class's tree, with the ids of its buckets."""
+def shadow_text(gone=None):
+    """The map of a class's tree, with the ids of its buckets; without the devices of a host."""
     crush = crush_dump()
     for it in crush["buckets"]:
+        if gone is not None and it["name"] == f"host{gone}":
+            it["items"] = []
         it["id"] -= 50
         for item in it["items"]:
+            if gone is not None and item["id"] == -2 - gone:
+                item["weight"] = 0
             item["id"] -= 50 if item["id"] < 0 else 0
     return text_of(crush)
 
@@ -122,7 +129,7 @@ def refused_maps(runner, folder):
     crush = crush_dump()
     crush["tunables"]["choose_local_tries"] = 2
     text = runner.said("check", write(folder, crush), status=2)["uncomputed"][0]["text"]
-    wants("tunable choose_local_tries" in text and "M13" in text, text)
+    wants("the tunable choose_local_tries 2" in text and "ceph osd crush tunables" in text, text)
     crush = crush_dump()
     crush["rules"].append(rule(1, "leaves", (STEPS[0], {"op": "chooseleaf_indep", "num": 0, "type": "osd"}, STEPS[2]), 3))
     write(folder, crush, osd_dump(pools=[pool(1, "photos"), pool(2, "parts", type=3, crush_rule=1)]))
@@ -135,41 +142,19 @@ def oddities(runner, folder):
     """What lies otherwise for a reason that Ceph alone knows is a note, with what it touches."""
     osd = osd_dump()
     osd["pg_temp"], osd["primary_temp"] = [{"pgid": "1.3", "osds": [0, 4, 7]}], [{"pgid": "1.1c", "osd": 4}]
-    osd["osds"][4]["primary_affinity"] = 0.5
     osd["pools"][0].update(pg_num_target=128, object_hash=1)
-    crush = {**crush_dump(), "choose_args": {"-1": [{"bucket_id": -1, "weight_set": [[1.0, 1.0, 1.0, 1.0]]}]}}
-    write(folder, crush, osd)
+    write(folder, crush_dump(), osd)
     said = runner.said("drain", folder, "host3", status=0)
     notes = {it["kind"]: it for it in said["notes"]}
-    equals("kinds", sorted(notes), ["object hash", "pg_temp", "primary affinity", "primary_temp", "split", "weight set"])
+    equals("kinds", sorted(notes), ["object hash", "pg_temp", "primary_temp", "split"])
     equals("pg_temp", [notes["pg_temp"][it] for it in ("pools", "groups", "devices")], [[1], ["1.3"], [0, 4, 7]])
     equals("primary_temp", [notes["primary_temp"][it] for it in ("pools", "groups", "devices")], [[1], ["1.1c"], [4]])
     equals("split", [notes["split"][it] for it in ("pools", "devices")], [[1], list(range(12))])
     equals("object hash", [notes["object hash"][it] for it in ("pools", "devices")], [[1], list(range(12))])
-    equals("primary affinity", (notes["primary affinity"]["pools"], notes["primary affinity"]["devices"]), ([1], [4]))
-    equals("weight set", (notes["weight set"]["pools"], notes["weight set"]["devices"]), ([1], list(range(12))))
     text = runner.run("drain", folder, "host3")[1]
-    for words in ("1.3, of pool photos and osd.0, osd.4, osd.7; what", "osd.4 has a primary affinity other than 1: in pool photos ", "a weight set (choose_args -1), of pool photos and of osd.0, osd.1, osd.2, osd.3 and 8 more;"):
-        wants(words in text, f"the text doesn't say {words!r}: {text}")
+    wants("1.3, of pool photos and osd.0, osd.4, osd.7; what" in text, text)
     wants("128" in notes["split"]["text"], notes["split"]["text"])
     runner.refused("locate", folder, "photos", "a", has="another object hash")
-
-
-def whole_lists(runner, folder):
-    """A group with a whole upmap list isn't computed: it stands in no list of moves, and the answer
-    is unknown where the list or the group's own devices are drained."""
-    placed = Placed(text_of(crush_dump()), pool=1, size=3, pg_num=64)
-    group = next(it for it in range(64) if 0 in placed.raw[it])
-    other = [it for it in (3, 6, 9) if it not in placed.raw[group]] + [it for it in (4, 7, 10) if it not in placed.raw[group]]
-    osd = osd_dump()
-    osd["pg_upmap"] = [{"pgid": f"1.{group:x}", "osds": other[:3]}]
-    write(folder, crush_dump(), osd)
-    for name in ("osd.0", f"osd.{other[0]}"):
-        said = runner.said("drain", folder, name, "--groups", status=2)
-        wants(f"1.{group:x}" in [of for it in said["uncomputed"] for of in it["groups"]], said["uncomputed"])
-        wants(group not in [it["group"] for it in said["groups"]], "the group is said to move")
-    idle = next(it for it in range(12) if it not in placed.traces[group] and it not in other[:3])
-    equals("another device", runner.said("drain", folder, f"osd.{idle}")["status"], 0)
 
 
 # ---- limits of requests
@@ -479,7 +464,7 @@ def dumps_in_turn(runner, folder):
 
 def cases():
     found = (
-        straw2, classes, odd_pools, refused_maps, oddities, whole_lists, many_states, many_pairs, holes, no_room, already_short, room, without_room, taken_by_name,
+        straw, classes, odd_pools, refused_maps, oddities, many_states, many_pairs, holes, no_room, already_short, room, without_room, taken_by_name,
         described, shares, least, upmaps, located, as_full, deep, untouched, dumps_in_turn,
     )  # fmt: skip
     return [(it.__name__, it) for it in found]

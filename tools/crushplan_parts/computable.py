@@ -7,7 +7,7 @@ from .texts import limit_of, reached_buckets
 MOST_SIZE, MOST_GROUPS, MOST_POOLS = 32, 65536, 256
 LOCAL = ("choose_local_tries", "choose_local_fallback_tries")
 NEXT = {
-    "straw": "'ceph osd crush set-all-straw-buckets-to-straw2' makes straw2 buckets of them, which can be computed, and moves little",
+    "straw": "'ceph osd crush set-all-straw-buckets-to-straw2' makes straw2 buckets of them, which can be computed",
 }  # fmt: skip
 
 

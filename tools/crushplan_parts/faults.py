@@ -1,5 +1,4 @@
 """What ends the program with a sentence and status 2: input that can't be read or computed."""
-import difflib
 
 
 class Fault(Exception):
@@ -8,6 +7,8 @@ class Fault(Exception):
 
 def nearest(name, names):
     """Returns the end of a sentence about a name that isn't there: the name most like it."""
+    import difflib
+
     found = difflib.get_close_matches(name, list(names), n=1, cutoff=0.5)
     return f"; the nearest is {found[0]}" if found else ""
 

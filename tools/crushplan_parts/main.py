@@ -1,23 +1,22 @@
 """The program from its arguments to its exit status."""
+import importlib
 import json
 import os
 import signal
 import sys
 
-from . import arguments, check, compare, drain, fail, fetch, locate, upmap, usage
-from .cluster import read_cluster
+from . import arguments
 from .faults import Fault
-from .output import written
-from .placing import Plan
-from .service import Script, Server, found_program
+from .service import Script, found_program
 
-COMMANDS = {"check": check.check, "usage": usage.usage, "compare": compare.compare, "drain": drain.drain, "fail": fail.fail, "upmap": upmap.upmap, "locate": locate.locate}
 FAILED = UNKNOWN = 2
 INTERRUPTED = 130
 
 
 def client_of(asked, beside):
     if asked.service:
+        from .server import Server
+
         return Server(asked.service)
     return Script(found_program(asked.program or os.environ.get("CRUSHCALC"), beside))
 
@@ -33,13 +32,20 @@ def said_version(beside):
 
 def answered(asked, beside):
     """Returns the exit status, once the answer is written."""
+    # of the commands that one alone is read which is asked for
+    command = getattr(importlib.import_module(f".{asked.command}", __package__), asked.command)
+    from .output import written
+
     if asked.command == "fetch":
-        answer, plan = fetch.fetch(asked), None
+        answer, plan = command(asked), None
     else:
+        from .cluster import read_cluster
+        from .placing import Plan
+
         cluster, client = read_cluster(asked.folder, asked), client_of(asked, beside)
         try:
             plan = Plan(cluster, client)
-            answer = doubted(COMMANDS[asked.command](plan, asked), plan.doubt)
+            answer = doubted(command(plan, asked), plan.doubt)
         finally:
             client.end()
     write_out(written(answer, asked.command, asked.form, plan))

@@ -1,11 +1,7 @@
 """What is written: tables for people, CSV, JSON; colours and progress on a terminal alone."""
-import csv
-import io
 import json
 import os
-import shutil
 import sys
-import textwrap
 import time
 
 UNITS = ("B", "KiB", "MiB", "GiB", "TiB", "PiB", "EiB")
@@ -53,11 +49,18 @@ class Table:
         lines = [self.title] if self.title else []
         for row in ([list(self.heads)] if any(self.heads) else []) + cells:
             *first, last = row
-            for part in textwrap.wrap(last, widths[-1]) or [""] if wrapped else [last]:
+            for part in wrap(last, widths[-1]) if wrapped else [last]:
                 parts = [cut(it, size).rjust(size) if of else cut(it, size).ljust(size) for it, size, of in zip([*first, part], widths, right)]
                 lines.append(("  " + "  ".join(parts)).rstrip())
                 first = [""] * len(first)
         return "\n".join(lines)
+
+
+def wrap(text, width):
+    """Returns a text in lines of a width."""
+    import textwrap
+
+    return textwrap.wrap(text, width) or [""]
 
 
 def is_number(value):
@@ -109,10 +112,17 @@ def painted(text, colour):
 
 def width():
     """Returns how wide a table may be: the terminal's width, or 0 where there is none."""
-    return shutil.get_terminal_size().columns if sys.stdout.isatty() else 0
+    if not sys.stdout.isatty():
+        return 0
+    import shutil
+
+    return shutil.get_terminal_size().columns
 
 
 def csv_text(rows):
+    import csv
+    import io
+
     out = io.StringIO()
     writer = csv.writer(out, lineterminator="\n")
     for row in rows:
