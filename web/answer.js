@@ -105,6 +105,23 @@ export async function stagesOf(cluster, pools, stages, work, later = null, how =
     return found;
 }
 
+// What another map moves of pools that can be computed on it alone: from where the cluster itself
+// says that their groups lie (`before`, by pool) to where they lie on it, by its texts `later`.
+export async function movesByWord(cluster, pools, before, later, map, work) {
+    const found = [], { states } = cluster.known, state = statesOn(map, states);
+    for (const pool of pools) {
+        const lies = (copy, held) => listsIn(copy, pool, NOW, held, state, "Where the groups lie then", work);
+        const after = await withCopy(cluster, { text: later.texts[later.places[pool.id]], pools: [pool] }, work, async (copy) => {
+            const held = (await exceptionsOf(cluster, pool, work)).withPairs(copy.pairs.get(pool.id)), lists = await lies(copy, held), left = held.copied();
+            if (!await removeBroken(cluster, copy, pool, NOW, left, { states, map }, before.get(pool.id), lists, work)) return lists;
+            await copy.exceptions(pool, left.sent());
+            return lies(copy, left);
+        });
+        found.push(...await differ([pool], before, new Map([[pool.id, after]])));
+    }
+    return found;
+}
+
 // The impact lists of these devices in each pool: of a pool the groups that are in any of them, or
 // have an exception to one of them that the service doesn't know. `wanted` says whether they still
 // are.

@@ -256,6 +256,35 @@ def upmap_lines_with_set_primaries_are_tried(page, folder):
 
 
 @with_folder
+def straw_buckets_that_become_straw2_are_compared_by_the_clusters_word(page, folder):
+    """Pools below straw buckets aren't computed; where the cluster says how they lie, another map on
+    which they are is compared with that."""
+    today, program = Today(), page.program
+    crush, osd = today.crush(), today.osd(POOLS[:2], STATES)
+    groups = files_of(folder, program, crush, osd)
+    pgs = json.loads((folder / "pgs.json").read_text())
+    for at in (3, 20, 33, 70):
+        up = groups[at]["up"]
+        pgs["pg_stats"][at]["up"] = up[1:] + [next(it for it in range(0, 24, 2) if it // 4 not in {of // 4 for of in up})]
+    (folder / "pgs.json").write_text(json.dumps(pgs))
+    (folder / "new.json").write_text(json.dumps(crush))
+    for it in crush["buckets"]:
+        it["alg"] = "straw"
+    (folder / "crush.json").write_text(json.dumps(crush))
+    dropped(page, folder)
+    notes, check = page.browser.text("#not-computed"), plan(program, folder, "check")
+    said = plan(program, folder, "compare", folder / "new.json", "--groups")
+    page.browser.drop((folder / "new.json").read_text(), "new.json")
+    page.browser.one("#answer")
+    page.settled()
+    figures = page.figures()
+    return first(
+        *(None if it["why"] in notes else f"{it['why']!r} isn't in {notes!r}" for it in check["pools"]), unlike((figures["moved"], figures["anew"]), (str(said["moved"]), str(said["copies"]))),
+        unlike(groups_shown(page), {it["id"]: [field(it["before"]), field(it["after"])] for it in said["groups"]}, "groups:"), None if said["moved"] == 4 else str(said),
+    )
+
+
+@with_folder
 def more_upmap_items_than_are_taken_at_once(page, folder):
     """A pool with more than 1,024 pairs: set part by part in a copy, as crushplan does."""
     today, program = Today(3, 4, 4, 7), page.program
@@ -347,5 +376,5 @@ def a_text_of_straw2_gets_its_mark(page):
 def cases():
     return (
         a_whole_cluster_of_today_is_answered_as_crushplan_does, groups_that_lie_otherwise_make_every_answer_unknown, a_folder_without_pgs_is_compared_by_device, weight_sets_are_a_text_each,
-        upmap_lines_with_set_primaries_are_tried, more_upmap_items_than_are_taken_at_once, a_tree_over_the_most_buckets, the_folder_of_fetch_is_dropped_as_it_is, what_stops_in_stretch_mode_is_unknown, a_text_of_straw2_gets_its_mark,
+        upmap_lines_with_set_primaries_are_tried, straw_buckets_that_become_straw2_are_compared_by_the_clusters_word, more_upmap_items_than_are_taken_at_once, a_tree_over_the_most_buckets, the_folder_of_fetch_is_dropped_as_it_is, what_stops_in_stretch_mode_is_unknown, a_text_of_straw2_gets_its_mark,
     )
