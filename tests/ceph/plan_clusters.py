@@ -148,6 +148,9 @@ def compiled(cluster, folder):
     text, path = pathlib.Path(folder) / "made.txt", pathlib.Path(folder) / "made.bin"
     text.write_text(cluster.map.text())
     library.run(["crushtool", "-c", text, "-o", path])
+    if " class " in text.read_text():
+        # the trees of classes get rows of the weight sets, as a cluster makes them
+        library.run(["crushtool", "-i", path, "--rebuild-class-roots", "-o", path])
     for device in cluster.removed:
         library.run(["crushtool", "-i", path, "--remove-item", f"osd.{device}", "-o", path])
     return path

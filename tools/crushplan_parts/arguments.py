@@ -8,14 +8,16 @@ DIR is a folder with files that the cluster writes:
 
   crush.json    ceph osd crush dump -f json     the map with exact weights; taken before map.txt
   map.txt       crushtool -d                    the map, with weights rounded to three decimals
-  osd.json      ceph osd dump -f json           pools, reweights, up and down, upmap items, full ratios;
+  osd.json      ceph osd dump -f json           pools, reweights, up and down, exceptions, full ratios;
                                                 without it each rule is a pool (--size, --pg-num)
   df.json, osd-df.json                          ceph df detail -f json, ceph osd df -f json: bytes; if one is
                                                 missing, no device counts as full
+  pgs.json      ceph pg dump pgs_brief -f json  where the cluster itself says that groups lie: where they lie
+                                                otherwise than computed, every answer is "unknown"
 
 'crushplan fetch DIR' writes them where 'ceph' is there. Nothing here changes a cluster.
-Pools over list, tree and uniform buckets are computed, by the program crushcalc; pools over straw
-or straw2 buckets aren't, and are named."""
+Pools over straw2, list, tree and uniform buckets are computed, by the program crushcalc; what isn't,
+as pools over straw buckets, is named with what to do."""
 END = """examples:
   crushplan fetch july                        the files of the cluster, into the folder july
   crushplan check july                        what of it can be computed, and what can't
@@ -23,7 +25,8 @@ END = """examples:
   crushplan fail july --each rack             each rack in turn, the worst first
 
 Exit status of drain and fail: 0 yes, every copy has room (and of fail no I/O stops); 1 no;
-2 what isn't computed may concern the devices.
+2 what isn't computed may concern the devices. Of each command 2 where groups lie otherwise in the
+cluster than computed.
 'crushplan COMMAND --help' has an example of each command. docs/CRUSHPLAN.md has the fields of --json."""
 COMMANDS = {
     "fetch": ("writes the files of a cluster into DIR, by commands that only read it", "crushplan fetch july --ceph 'ceph --cluster backup'"),
@@ -37,7 +40,7 @@ COMMANDS = {
 }
 STATUSES = {
     "fetch": "0 where the map and the pools were written, 2 where they weren't.",
-    "check": "0 where every pool can be computed, 1 where some can, 2 where none can.",
+    "check": "0 where every pool can be computed, 1 where some can, 2 where none can, or groups lie otherwise than computed.",
     "usage": "0; 2 where it couldn't be computed.",
     "compare": "0; 1 where copies have no device afterwards, or a device whose weight stays gets more and is then past the backfill-full ratio; 2 where not all could be computed.",
     "drain": "0 yes, every copy has room; 1 no; 2 where what isn't computed may concern the devices, where files on room lack a part, and after an error.",
@@ -46,13 +49,13 @@ STATUSES = {
     "locate": "0; 2 where it couldn't be computed.",
 }
 MORE = {
-    "check": "A removed device leaves a hole in a tree bucket. crushcalc refuses such a map (code M6), and crushplan fills each hole by a device of weight 0, with which every group lies as in Ceph.",
+    "check": "By pgs.json each group is compared with where the cluster says that it lies, without it the numbers of groups in osd-df.json by device. A removed device leaves a hole in a tree bucket. crushcalc refuses such a map (code M6), and crushplan fills each hole by a device of weight 0, with which every group lies as in Ceph.",
     "usage": "The share is what weights and reweights give an item of the copies that there are; 'bytes' are its part of the pools' bytes.",
-    "compare": "NEW is a text as 'crushtool -d' writes it, or a dump. The least is what the change of weights alone asks for; where a rule takes nearly as many hosts or racks as there are, less may move.",
+    "compare": "NEW is a text as 'crushtool -d' writes it, or a dump. Of pools over straw buckets, which NEW makes straw2, pgs.json says where groups lie before. The least is what the change of weights alone asks for; where a rule takes nearly as many hosts or racks as there are, less may move.",
     "drain": "The reweights of the devices become 0, as by 'ceph osd out'. Only groups of the impact lists of crushcalc can move: that no other group does is proved, while no reweight is raised, and map and upmap items stay. A copy has no room where it has no device that is up, or where its device gets more and is then past the backfill-full ratio.",
     "locate": "An OBJECT is a name, and never a group, which --group names: 'crushplan locate july --group 5.1f', as 'ceph pg map 5.1f'. 'crushplan usage DIR --groups' lists all groups.",
-    "fail": "First what holds while the devices are down: groups with fewer copies than the pool's min_size, whose I/O stops. Then what their going out moves.",
-    "upmap": "FILE has lines 'ceph osd pg-upmap-items GROUP FROM TO ..' or 'ceph osd rm-pg-upmap-items GROUP', as 'osdmaptool --upmap FILE' writes them; '-' is standard input.",
+    "fail": "First what holds while the devices are down: groups with fewer copies than the pool's min_size, whose I/O stops (in stretch mode that is unknown). Then what their going out moves.",
+    "upmap": "FILE has lines 'ceph osd pg-upmap-items GROUP FROM TO ..' or 'ceph osd rm-pg-upmap-items GROUP', as 'osdmaptool --upmap FILE' writes them, or 'ceph osd pg-upmap-primary GROUP DEVICE' or 'rm-pg-upmap-primary GROUP'; '-' is standard input.",
 }
 
 

@@ -155,8 +155,8 @@ class Compared:
         old = Shares(plan.map, plan.map.rules[pool.rule], pool.size, plan.state)
         new = Shares(map_, map_.rules[pool.rule], pool.size, lambda it: plan.state(it) if it in plan.known else State())
         # the parts that devices gain, each of the copies that there are
-        grown = (fractions.Fraction(new.of(it), new.whole) - fractions.Fraction(old.of(it), old.whole) for it in {*old.parts, *new.parts})
-        self.least = sum((it for it in grown if it > 0), fractions.Fraction(0)) * before.total()
+        grown = (new.of(it) * old.whole - old.of(it) * new.whole for it in old.devices() | new.devices())
+        self.least = fractions.Fraction(sum(it for it in grown if it > 0), old.whole * new.whole) * before.total()
 
     def said(self):
         return {"pool": self.pool.id, "name": self.pool.name, "moved": len(self.moves), "copies": self.copies, "bytes": whole(self.bytes), "least": rounded(self.least.numerator, self.least.denominator, 2), "missing_copies": self.missing, "missing_copies_before": self.missing_before}

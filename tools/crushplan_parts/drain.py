@@ -12,7 +12,7 @@ def drain(plan, asked):
     """Answers what a drain does: the reweights of devices become 0."""
     devices = plan.tree.devices_of(asked.names)
     later = AfterDrain(plan, devices)
-    states, drained = states_after(plan, devices, reweight=0)
+    drained = states_after(plan, devices, reweight=0)
 
     def drain_then_purge():
         start = Start(plan, devices)
@@ -23,11 +23,11 @@ def drain(plan, asked):
     (start, (before, after), purge), (first, second) = plan.side_by_side(drain_then_purge, later.ask_weight_first)
     changes = pool_changes(plan, start, devices, before, after)
     later.take(changes, purge, first, second)
-    summary, stay = Summary(plan, changes, states), Stay(plan, start, devices, changes)
+    summary, stay = Summary(plan, changes, devices), Stay(plan, start, devices, changes)
     warn_of_room(plan, summary)
     warn_of_flags(plan)
     status = status_of(plan, summary, stay)
-    fields = {
+    fields = lambda: {
         "devices": devices, **summary.said(asked.groups), "stay": stay.said(),
         "purge": later.purge.said(asked.groups),
         "weight_first": {**later.weight_first.said(asked.groups), "left": later.left, "past_backfillfull": [it for it, _ in later.too_full], "then_purge": later.then_purge.said(asked.groups)},

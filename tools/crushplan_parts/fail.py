@@ -4,10 +4,12 @@ from .faults import Fault, counted, some
 from .output import Answer, Progress, Sized, Table, devices_text, shown, sized
 from .reports import COPY, Stay, groups_rows, groups_table, listed, pools_table, status_of, summary_table, usage_rows, usage_table, verdict, warn_of_flags, warn_of_room
 from .shares import hundredths
-from .stages import Stages, states_after
-from .summary import Summary
+from .service import JOBS
+from .stages import Stages, in_turn, states_after
+from .summary import Levels, Summary, whole
 
 UNKNOWN = 2
+MOST_ASKED = 60_000  # groups that are asked for at once, of which each is kept
 
 
 def stops(pool, copies):
@@ -58,17 +60,21 @@ class Down:
         return Table(("group", "up", "primary", "copies", "I/O stops"), rows, "Groups a copy short while they are down:") if rows else None
 
 
+def stages_of(plan, devices):
+    """Returns the states of devices that go down, and then out."""
+    return [states_after(plan, devices, up=False), states_after(plan, devices, up=False, reweight=0)]
+
+
 class Failure:
     """Devices that go down, and then out."""
 
-    def __init__(self, plan, start, devices, quick=False):
-        _, down = states_after(plan, devices, up=False)
-        states, out = states_after(plan, devices, up=False, reweight=0)
+    def __init__(self, plan, start, devices, lists=None, levels=None):
+        """Takes the lists before, while they are down and once they are out, where they were asked for."""
         self.devices = devices
-        before, while_down, after = Stages(plan, start.touched).set_states([down, out], start.wanted(devices), start.before)
+        before, while_down, after = lists or Stages(plan, start.touched).set_states(stages_of(plan, devices), start.wanted(devices), start.before)
         self.down = Down(plan, start, while_down)
         changes = pool_changes(plan, start, devices, before, after)
-        self.summary = Summary(plan, changes, states, quick)
+        self.summary = Summary(plan, changes, devices, levels)
 
 
 def fail(plan, asked):
@@ -87,7 +93,7 @@ def fail(plan, asked):
     warn_of_outs(plan, asked.names, devices)
     stretched = plan.stretched(devices)
     status = status_of(plan, it.summary, stay, it.down.stopped) or (UNKNOWN if stretched else 0)
-    fields = {"devices": devices, "down": it.down.said(asked.groups), "out": it.summary.said(asked.groups), "stay": stay.said()}
+    fields = lambda: {"devices": devices, "down": it.down.said(asked.groups), "out": it.summary.said(asked.groups), "stay": stay.said()}
     blocks = [it.down.table(it.summary.groups) if plan.pools else None, it.down.pools_table(), summary_table(plan, it.summary, stay, "Once they are out:", devices), pools_table(it.summary), usage_table(plan, it.summary, asked.by)]
     if asked.groups:
         blocks += [it.down.groups_table(), groups_table(it.summary.moves)]
@@ -135,9 +141,9 @@ def warn_of_outs(plan, names, devices):
 class Each:
     """A bucket of a type that fails: its item, what that does, and what of it isn't computed."""
 
-    def __init__(self, plan, start, item, devices):
+    def __init__(self, plan, start, levels, item, devices, lists):
         self.item, self.name = item, plan.map.name_of(item)
-        self.failure = Failure(plan, start, devices, quick=True)
+        self.failure = Failure(plan, start, devices, lists, levels)
         self.stay = Stay(plan, start, devices, self.failure.summary.changes)
         self.stretched = plan.stretched(devices)
         stopped = self.failure.down.stopped
@@ -155,14 +161,13 @@ class Each:
 
     def said(self):
         it, summary = self.failure, self.failure.summary
-        said = summary.said(False)
         found = {
             "below_min_size": it.down.stopped, "short_down": it.down.short, "short_groups": summary.short, "missing_copies": summary.missing, "too_full": len(summary.past["backfillfull_ratio"]),
-            "moved": len(summary.moves), "can_move": summary.can_move, "copies": summary.copies, "bytes": said["bytes"],
+            "moved": len(summary.moves), "can_move": summary.can_move, "copies": summary.copies, "bytes": whole(summary.bytes),
         }  # fmt: skip
         if self.is_blank:
             found = dict.fromkeys(found)
-        return {"name": self.name, "devices": len(it.devices), **found, "status": self.status, "fullest": None if self.is_blank else said["fullest"]}
+        return {"name": self.name, "devices": len(it.devices), **found, "status": self.status, "fullest": None if self.is_blank else summary.fullest and summary.device_said(summary.fullest)}
 
     def row(self):
         """Returns its line of the table; what isn't known is a question mark."""
@@ -181,11 +186,14 @@ def fail_each(plan, asked):
     units = [(it, [d for d in dict.fromkeys(plan.map.below(it)) if d in plan.known]) for it in items]
     start = Start(plan, sorted({device for _, devices in units for device in devices}))
     start.lists_now()
-    found, progress = [], Progress(len(units), asked.each + "s")
+    found, levels, progress = [], Levels(plan), Progress(len(units), asked.each + "s")
     try:
-        for done, unit in enumerate(units):
-            progress.at(done)
-            found.append(Each(plan, start, *unit))
+        for part in parts_of(start, units):
+            progress.at(len(found))
+            # side by side, each with some of them, and no more at once than fit into memory
+            shares = [part[it::JOBS] for it in range(JOBS) if part[it::JOBS]]
+            placed = plan.side_by_side(*(lambda own=own: in_turn(plan, start.touched, [(stages_of(plan, of), start.wanted(of), start.before) for _, of in own]) for own in shares))
+            found += [Each(plan, start, levels, *unit, lists) for own, all_ in zip(shares, placed) for unit, lists in zip(own, all_)]
     finally:
         progress.end()
     warn_of_room(plan, found[0].failure.summary)
@@ -196,6 +204,20 @@ def fail_each(plan, asked):
     own = [list(rows[0])[:-1] + ["fullest", "fullest_percent", "fullest_used"]] + [[*list(it.values())[:-1], *((it["fullest"] or {}).get(key) for key in ("name", "percent_after", "used_after"))] for it in rows]
     has = "room" if all(it.failure.summary.knows_room() for it in found) else "a device"
     return Answer(status, each_sentence(plan, asked.each, statuses, has), {"type": asked.each, "each": rows}, [each_table(asked.each, found), each_words(rows)] if plan.pools else [], own)
+
+
+def parts_of(start, units):
+    """Yields parts of the buckets that fail in turn: so many that not too many groups are asked for at once."""
+    part, room = [], MOST_ASKED
+    for unit in units:
+        count = 2 * sum(map(len, start.wanted(unit[1]).values()))
+        if part and count > room:
+            yield part
+            part, room = [], MOST_ASKED
+        part.append(unit)
+        room -= count
+    if part:
+        yield part
 
 
 def each_table(name, found):

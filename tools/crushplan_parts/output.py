@@ -13,7 +13,7 @@ NARROW = 20  # of a last column whose words go on in further lines
 
 class Answer:
     """What a command found: its status, one sentence, the fields of its JSON, blocks of text for
-    people, and the rows of its CSV with their heads first."""
+    people, and the rows of its CSV with their heads first. The fields may be a function that returns them."""
 
     def __init__(self, status, sentence, fields, blocks, rows):
         self.status, self.sentence, self.fields, self.blocks, self.rows = status, sentence, fields, blocks, rows
@@ -140,7 +140,8 @@ def written(answer, command, form, plan):
             "map": plan and {"file": plan.map.file, "exact": not plan.map.rounded}, "warnings": warnings,
             "uncomputed": [it.said() for it in notes if it.open], "notes": [it.said() for it in notes if not it.open],
         }  # fmt: skip
-        return json.dumps({**head, **answer.fields, **tail}) + "\n"
+        fields = answer.fields() if callable(answer.fields) else answer.fields
+        return json.dumps({**head, **fields, **tail}) + "\n"
     if form == "csv":
         return csv_text(answer.rows)
     return people_text(answer, notes, warnings)

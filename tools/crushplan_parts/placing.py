@@ -33,7 +33,7 @@ class Plan:
 
     def __init__(self, cluster, client):
         self.cluster, self.client, self.map, self.tree = cluster, client, cluster.map, Tree(cluster.map)
-        self.notes, self.pools, self.left_out, self.sets, self.doubt = [], {}, {}, {}, None
+        self.notes, self.pools, self.left_out, self.sets, self.shares, self.doubt = [], {}, {}, {}, {}, None
         for pool in cluster.pools.values():
             why = pool_fault(self.map, pool, cluster.described)
             if why:
@@ -160,20 +160,20 @@ class Plan:
         """Returns the state of a device as the files have it."""
         return self.cluster.states.get(device) or (State() if self.cluster.described else State(0, False))
 
+    def placed(self):
+        """Returns the devices that stand in some bucket, and that a text declares."""
+        return [it for it in self.tree.placed_devices() if it in self.known]
+
     def reach(self, pool):
         """Returns the devices that a pool's rule can answer."""
-        return self.map.reached(self.map.rules[pool.rule])
+        if pool.rule not in self.sets:
+            self.sets[pool.rule] = self.map.reached(self.map.rules[pool.rule])
+        return self.sets[pool.rule]
 
     def may_have(self, pool):
         """Returns the devices that groups of a pool may lie on, by its rule or by exceptions."""
         named = {new for pairs in self.pairs[pool.id].values() for _, new in pairs}
         return self.reach(pool) | named | {it for own in self.cluster.lists.get(pool.id, {}).values() for it in own}
-
-    def below(self, bucket):
-        """Returns the devices below a bucket, as a set."""
-        if bucket not in self.sets:
-            self.sets[bucket] = set(self.map.below(bucket))
-        return self.sets[bucket]
 
     def taken(self, pool):
         """Returns the devices that a pool's rule takes by name: these stand in no impact list."""

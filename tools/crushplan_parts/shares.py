@@ -5,21 +5,33 @@ from .crush_map import ONE
 
 
 class Shares:
-    """The share of each device that is up and in: `parts[device] / whole`. Where a rule takes
+    """The share of each device that is up and in: `of(device) / whole`. Where a rule takes
     several items, each has as much as the places that its steps ask for."""
 
     def __init__(self, map_, rule, size, states):
-        blocks = [(places, parts) for places, parts in ((places, block_parts(map_, items, states)) for items, places in blocks_of(rule, size)) if parts and places]
-        self.parts, self.whole = {}, 1
-        totals = [sum(parts.values()) for _, parts in blocks]
-        self.whole = math.prod(totals) * sum(places for places, _ in blocks) or 1
-        for (places, parts), total in zip(blocks, totals):
-            factor = places * (math.prod(totals) // total)
-            for device, part in parts.items():
-                self.parts[device] = self.parts.get(device, 0) + part * factor
+        blocks = ((places, block_parts(map_, items, states)) for items, places in blocks_of(rule, size))
+        self.take([(places, parts, sum(parts.values())) for places, parts in blocks if parts and places], frozenset())
+
+    def take(self, blocks, gone):
+        """Takes the parts of devices by what is taken; those that are gone have nothing."""
+        self.blocks, self.gone = blocks, gone
+        left = [(places, parts, total - sum(parts.get(it, 0) for it in gone)) for places, parts, total in blocks]
+        left = [it for it in left if it[2]]
+        product = math.prod(total for _, _, total in left)
+        self.whole = product * sum(places for places, _, _ in left) or 1
+        self.factors = [(places * (product // total), parts) for places, parts, total in left]
+
+    def without(self, devices):
+        """Returns the shares once some devices are down or out: the others keep what they have beside each other."""
+        found = Shares.__new__(Shares)
+        found.take(self.blocks, self.gone | set(devices))
+        return found
+
+    def devices(self):
+        return {device for _, parts, _ in self.blocks for device in parts} - self.gone
 
     def of(self, device):
-        return self.parts.get(device, 0)
+        return 0 if device in self.gone else sum(factor * parts.get(device, 0) for factor, parts in self.factors)
 
 
 def blocks_of(rule, size):

@@ -75,10 +75,14 @@ class Stages:
         found = [{pool: run.placements(it) for pool, it in own.items()} for own in asked]
         if before is not None:
             found[0] = {pool: {group: before[pool][group] for group in groups[pool]} for pool in pools}
-        dirty = {pool: self.remove_pairs(pool, {group: it.raw for group, it in own.items()}) for pool, own in found[-1].items()}
-        for pool, own in self.again(dirty).items():
-            found[-1][pool].update(own)
+        self.settle(found[-1])
         return found
+
+    def settle(self, placements):
+        """Has the monitors remove what they don't keep where groups lie so, by pool, and asks for these groups again."""
+        dirty = {pool: self.remove_pairs(pool, {group: it.raw for group, it in own.items()}) for pool, own in placements.items()}
+        for pool, own in self.again(dirty).items():
+            placements[pool].update(own)
 
     def set_map(self, map_, texts, with_usage=False):
         """Changes the map, and returns the groups that lie elsewhere then: up before and after, by
@@ -110,8 +114,30 @@ class Stages:
         return found
 
 
+def in_turn(plan, pools, units):
+    """Returns what set_states() does for each of several changes, each of them of the cluster as it is: one run asks them
+    all. Of each there are its stages, the groups that are wanted by pool, and where groups lie before."""
+    run, asked = plan.run(pools), []
+    for stages, groups, _ in units:
+        own = []
+        for changed in stages:
+            run.set_states(changed)
+            own.append({pool: run.lists(pool, groups[pool]) for pool in sorted(pools) if groups.get(pool)})
+        run.set_states({it: plan.state(it) for changed in stages for it in changed})
+        asked.append(own)
+    plan.answer(run)
+    found = []
+    for (stages, groups, before), own in zip(units, asked):
+        lists = [{pool: {group: before[pool][group] for group in groups[pool]} for pool in own[-1]}]
+        lists += [{pool: run.placements(it) for pool, it in of.items()} for of in own]
+        after = Stages(plan, pools)
+        for changed in stages:
+            after.changed.update(changed)
+        after.settle(lists[-1])
+        found.append(lists)
+    return found
+
+
 def states_after(plan, devices, **fields):
-    """Returns the states of devices once some of them are changed, as a function, and the changed
-    ones."""
-    changed = {it: State(**{**vars(plan.state(it)), **fields}) for it in devices}
-    return (lambda device: changed.get(device) or plan.state(device)), changed
+    """Returns the states of devices once they are changed."""
+    return {it: State(**{**vars(plan.state(it)), **fields}) for it in devices}

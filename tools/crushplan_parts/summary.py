@@ -2,6 +2,7 @@
 how full devices are then. Sums and differences of what crushcalc answers, in whole numbers."""
 import collections
 import fractions
+import math
 
 from .faults import some
 from .shares import Expected, Shares, percent, rounded
@@ -112,9 +113,9 @@ class Device:
 class Summary:
     """A change of the states of devices, in all pools that are computed."""
 
-    def __init__(self, plan, changes, states, quick=False):
-        """Takes the changes by pool, and the states afterwards: a function from a device. `quick`
-        leaves out what is expected before."""
+    def __init__(self, plan, changes, gone, levels=None):
+        """Takes the changes by pool, and the devices that are down or out afterwards. By `levels` it has the devices alone
+        that change, and not what is expected of them before."""
         self.plan, self.changes = plan, changes
         self.moves = [it for change in changes for it in change.moves]
         self.copies = sum(it.copies for it in changes)
@@ -125,7 +126,7 @@ class Summary:
         self.can_move = sum(len(it.can_move) for it in changes)
         self.groups = sum(it.pool.pg_num for it in changes)
         self.bytes = total(it.bytes for it in changes)
-        self.devices = devices_of(plan, changes, states, quick)
+        self.devices = devices_of(plan, changes, gone, levels is None, levels)
         self.fullest, self.as_full = self.find_fullest()
         self.past = {name: self.devices_past(name) for name in ("nearfull_ratio", "backfillfull_ratio", "full_ratio")}
 
@@ -210,46 +211,79 @@ def total(values):
     return None if any(it is None for it in values) or not values else sum(values)
 
 
-SHARES = {}
+def shares_of(plan, pool):
+    """Returns the shares of a pool by the states that devices have now."""
+    key = (pool.rule, pool.size)
+    if key not in plan.shares:
+        plan.shares[key] = Shares(plan.map, plan.map.rules[pool.rule], pool.size, plan.state)
+    return plan.shares[key]
 
 
-def shares_of(plan, pool, states, key):
-    """Returns the shares of a pool by states that a key stands for."""
-    found = (id(plan), pool.rule, pool.size, key)
-    if key is None or found not in SHARES:
-        shares = Shares(plan.map, plan.map.rules[pool.rule], pool.size, states)
-        if key is None:
-            return shares
-        SHARES[found] = shares
-    return SHARES[found]
+class Bytes:
+    """Bytes of copies of several pools, over one measure, so that sums of them are sums of whole numbers."""
+
+    def __init__(self, changes):
+        self.changes = changes
+        self.is_known = bool(changes) and all(it.pool.bytes is not None for it in changes)
+        totals = [it.before.total() for it in changes]
+        self.measure = math.lcm(*(it or 1 for it in totals)) if changes else 1
+        self.each = [it.pool.bytes * (self.measure // of) if of else 0 for it, of in zip(changes, totals)] if self.is_known else []
+
+    def of(self, copies):
+        """Returns the bytes of so many copies of each pool."""
+        return fractions.Fraction(sum(count * each for count, each in zip(copies, self.each) if count), self.measure)
 
 
-def devices_of(plan, changes, states, quick):
-    """Returns each placed device with how full it is before and after."""
-    found = {it: Device(it) for it in plan.tree.placed_devices() if it in plan.known}
-    before, after, own = Expected(), Expected(), {}
+class Levels:
+    """How full devices are before anything changes, the fullest first; none where the files don't say it."""
+
+    def __init__(self, plan):
+        rooms, known = plan.cluster.rooms, bool(plan.pools) and all(it.bytes is not None for it in plan.pools.values())
+        devices = [it for it in plan.tree.placed_devices() if it in plan.known and it in rooms and rooms[it].size > 0] if known else []
+        self.used = {it: rooms[it].used_after() for it in devices}
+        self.order = sorted(devices, key=lambda it: (-self.used[it], it))
+
+    def fullest(self, changed, changes):
+        """Returns the fullest devices that have copies and that nothing changes."""
+        found = []
+        for it in self.order:
+            if found and self.used[it] != self.used[found[0]]:
+                break
+            if it not in changed and any(change.before.entries.get(it) for change in changes):
+                found.append(it)
+        return found
+
+
+def devices_of(plan, changes, gone=(), with_before=True, levels=None):
+    """Returns each placed device with how full it is before and after; `gone` are down or out afterwards. By `levels` the
+    devices alone that change, and of the others the fullest."""
+    placed = plan.placed()
+    if levels is not None and levels.order:
+        changed = {it for change in changes for it in change.gains}
+        placed = sorted((changed & set(placed)) | set(levels.fullest(changed, changes)))
+    before, after, own, bytes_ = Expected(), Expected(), {}, Bytes(changes)
     for change in changes:
-        pool = change.pool
-        if not quick:
-            before.add(shares_of(plan, pool, plan.state, "now"), change.before.total())
-        key = (pool.rule, pool.size)
-        own[key] = own.get(key) or shares_of(plan, pool, states, None)
+        shares, key = shares_of(plan, change.pool), (change.pool.rule, change.pool.size)
+        own[key] = own.get(key) or (shares.without(gone) if gone else shares)
+        if with_before:
+            before.add(shares, change.before.total())
         after.add(own[key], change.after.total())
-    known = all(it.pool.bytes is not None for it in changes) and bool(changes)
-    for id_, it in found.items():
-        it.before, it.after = (sum(of.entries.get(id_, 0) for of in sides) for sides in ([c.before for c in changes], [c.after for c in changes]))
-        it.primaries_before, it.primaries_after = (sum(of.primaries.get(id_, 0) for of in sides) for sides in ([c.before for c in changes], [c.after for c in changes]))
+    found = []
+    for id_ in placed:
+        it = Device(id_)
+        copies = [(change.before.entries.get(id_, 0), change.after.entries.get(id_, 0)) for change in changes]
+        it.before, it.after = sum(old for old, _ in copies), sum(new for _, new in copies)
+        it.primaries_before, it.primaries_after = sum(of.before.primaries.get(id_, 0) for of in changes), sum(of.after.primaries.get(id_, 0) for of in changes)
         it.expected_before, it.expected_after = before.of(id_), after.of(id_)
-        if known:
-            fill(plan, changes, it)
-    return list(found.values())
+        if bytes_.is_known:
+            fill(plan, bytes_, it, copies)
+        found.append(it)
+    return found
 
 
-def fill(plan, changes, it):
+def fill(plan, bytes_, it, copies):
     """Sets the bytes of a device, and how much of its room is used."""
-    it.bytes_before = sum((change.bytes_of(change.before.entries.get(it.id, 0)) or 0 for change in changes), fractions.Fraction(0))
-    it.bytes_after = sum((change.bytes_of(change.after.entries.get(it.id, 0)) or 0 for change in changes), fractions.Fraction(0))
+    it.bytes_before, it.bytes_after = (bytes_.of([of[place] for of in copies]) for place in (0, 1))
     room = plan.cluster.rooms.get(it.id)
     if room:
-        gained = sum(change.bytes_of(change.gains[it.id]) or 0 for change in changes)
-        it.used_before, it.used_after = room.used_after(), room.used_after(gained)
+        it.used_before, it.used_after = room.used_after(), room.used_after(bytes_.of([change.gains[it.id] for change in bytes_.changes]))

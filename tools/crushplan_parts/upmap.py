@@ -187,7 +187,7 @@ def evenness(plan, changes):
     """Returns the least and the greatest percent of its share that a device has, before and after,
     in these pools."""
     found = {}
-    for it in devices_of(plan, changes, plan.state, False):
+    for it in devices_of(plan, changes):
         for name, copies, expected in (("before", it.before, it.expected_before), ("after", it.after, it.expected_after)):
             of = percent(copies, expected)
             if of is not None:

@@ -35,7 +35,7 @@ def usage(plan, asked):
     plan.doubt_usage(usages)
     changes = [PoolChange(it, usages[it.id], set(), []) for it in pools]
     others = devices_of_others(plan)
-    devices = [it for it in devices_of(plan, changes, plan.state, True) if it.after or it.expected_after[0] or not asked.pool and it.id not in others]
+    devices = [it for it in devices_of(plan, changes, with_before=False) if it.after or it.expected_after[0] or not asked.pool and it.id not in others]
     type_ = plan.tree.type_number(asked.by or "osd")
     rows = [row_of(plan, type_, *it) for it in grouped(plan, devices, type_)]
     known = any(it["bytes"] is not None for it in rows)
