@@ -111,7 +111,7 @@ def canonical_texts():
         (b"GET /t/a/maps/1", version_of(canonical, 1)),
         (import_of(canonical, "m2"), imported(2, 2)),
         (b"GET /t/a/maps/2", version_of(canonical, 2)),
-        (import_of(canonical.split("\n", 1)[1], "m3"), refused("X2", 18)),
+        (import_of(canonical.split("\n", 1)[1], "m3"), refused("X2", 20)),
         (import_of(marked(tiny()), "m3"), imported(3, 3)),
         (b"GET /t/a/maps/3", version_of(canonical_tiny(), 3)),
         (import_of(marked(STRAW2).replace("\n", "\r\n"), "m4"), imported(4, 4)),
@@ -238,6 +238,8 @@ def great_weights():
         ([(0, 2**30), (1, 2**30 - 1), (2, 2**30 + 1)], few),
         ([(0, 2**30 + 1), (1, ONE)], few),
         ([(0, GREATEST), (1, GREATEST), (2, 1)], few),
+        # the second's lack needs no rounding: rounded up it would be the less
+        ([(0, 2126115091), (1, 2126115091)], [(1, 112120)]),
     ])
 
 

@@ -1,15 +1,15 @@
 -- A pick is read from a body exactly where the body has the form of one.
-use Rattle.std.proofs.Common.{◌≡◌, ◌≢◌, ℕ, zero, suc, ◌&&◌, ◌||◌, ◌==◌, ◌≤◌, ℤ, pos, negsuc, List, [], ◌∷◌, length, Bool, true, false, not, nat_lt, nat_le, int_le, if◌then◌else◌, Option, Some, None, option_and_then, bytes_eq, refl, ap, ◌∙◌, arith}
+use Rattle.std.proofs.Common.{◌≡◌, ◌≢◌, ℕ, zero, suc, ◌&&◌, ◌||◌, ◌==◌, ◌≤◌, ℤ, pos, negsuc, List, [], ◌∷◌, length, Bool, not, nat_lt, nat_le, int_le, Option, Some, None, option_and_then, refl, ap, ◌∙◌, arith}
 use Rattle.std.specs.Bool.{Decides}
 use Rattle.std.specs.List.{All, AllPairs, list_any, list_all}
 use Rattle.std.specs.Prelude.{codes}
 use Rattle.std.proofs.lemmas.Bool.Decides.{Decides-and, Decides-by_and, Decides-eqb, Decides-like, Decides-not}
 use Rattle.std.proofs.lemmas.Int.{ints}
-use Rattle.std.proofs.lemmas.Slice.Eq.{bytes_eq-Decides}
 use Rattle.serde_json.specs.Data.{Data}
 use Rattle.serde_json.specs.Find.{as_str}
 use Rattle.crush_kinds.specs.Bucket.{BucketView, WeightedItem, total_weight, HasEqualWeights}
 use Rattle.crush_types.specs.Kinds.{is_uniform, kind_name, kind_named}
+use Rattle.crush_types.proofs.Names.{kind_of_name, name_of_kind}
 use Rattle.crush_types.specs.Weights.{has_equal_weights}
 use Rattle.crush_map.specs.declared.limits.TheConstants.{ITEM_LIMIT, NUMBER_LIMIT, TOTAL_WEIGHT_LIMIT}
 use Rattle.crush_types.specs.declared.ItemId.{ItemId}
@@ -19,7 +19,6 @@ use Rattle.tenant_messages.proofs.Finding.{Finds, finds_as, finds_both, finds_in
 use Rattle.tenant_picks.proofs.Deciding.{Decides-distinct, Decides-none, Differ}
 use Rattle.tenant_picks.specs.declared.limits.TheConstants.{ATTEMPT_LIMIT}
 use Rattle.tenant_picks.specs.Picks.{weighed, entry_of, is_of_item, are_distinct, kind_of, is_valid, bucket_of, pick_of, IsItem, IsKind, IsBucket, IsPickBody}
-use Rattle.tenant_messages.specs.Forms.{IsText}
 
 -- ---- an item
 
