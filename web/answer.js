@@ -90,8 +90,8 @@ async function stagesOn(cluster, group, copy, stages, how, work) {
 // exceptions Ceph would remove. `change` of a stage changes the copy, and gives the version on
 // which it is looked at, if another; `states` are those of devices then; `then` gives what decides
 // which exceptions are removed: the states, and the devices that have another one, or another map.
-// `later` are the texts of another map, which the copies get; `how` says whether another order alone
-// is no move in a replicated pool (`unordered`).
+// `later` are the texts of another map, which the copies get; `how` says whether another order
+// alone is no move in a replicated pool (`unordered`).
 export async function stagesOf(cluster, pools, stages, work, later = null, how = {}) {
     const found = stages.map(() => Object.assign([], { removed: 0 }));
     for (const group of groupsOf(cluster, pools, later)) {
@@ -102,6 +102,23 @@ export async function stagesOf(cluster, pools, stages, work, later = null, how =
         });
     }
     for (const it of found) it.sort((one, other) => pools.indexOf(one.pool) - pools.indexOf(other.pool));
+    return found;
+}
+
+// What another map moves of pools that can be computed on it alone: from where the cluster itself
+// says that their groups lie (`before`, by pool) to where they lie on it, by its texts `later`.
+export async function movesByWord(cluster, pools, before, later, map, work) {
+    const found = [], { states } = cluster.known, state = statesOn(map, states);
+    for (const pool of pools) {
+        const lies = (copy, held) => listsIn(copy, pool, NOW, held, state, "Where the groups lie then", work);
+        const after = await withCopy(cluster, { text: later.texts[later.places[pool.id]], pools: [pool] }, work, async (copy) => {
+            const held = (await exceptionsOf(cluster, pool, work)).withPairs(copy.pairs.get(pool.id)), lists = await lies(copy, held), left = held.copied();
+            if (!await removeBroken(cluster, copy, pool, NOW, left, { states, map }, before.get(pool.id), lists, work)) return lists;
+            await copy.exceptions(pool, left.sent());
+            return lies(copy, left);
+        });
+        found.push(...await differ([pool], before, new Map([[pool.id, after]])));
+    }
     return found;
 }
 

@@ -31,7 +31,7 @@ export const NOT_COMPUTED = new Set(["X2", "X3", "X4", "M13"]);
 
 // What a map with straw buckets can still be used for.
 export const STRAW = {
-    why: "Nothing is wrong with such a map: Ceph computes straw buckets, and crushcalc doesn't. 'ceph osd crush set-all-straw-buckets-to-straw2' makes straw2 buckets of them, which are computed, and moves little.",
+    why: "Nothing is wrong with such a map: Ceph computes straw buckets, and crushcalc doesn't. 'ceph osd crush set-all-straw-buckets-to-straw2' makes straw2 buckets of them, which are computed.",
     copy: "Or try a copy of the text in which they are lists. This command writes it:",
     command: "sed -E 's/^([[:space:]]*alg[[:space:]]+)straw2?/\\1list/' map.txt >lists.txt",
     good: "Good for: this page's steps, whether the rules find enough hosts or racks, and how evenly a pool spreads, since each device still gets its share by weight.",

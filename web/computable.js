@@ -8,7 +8,7 @@ const COMPUTED = new Set(["list", "straw2", "tree", "uniform"]), LOCAL = ["choos
 const SIZE = 32, GROUPS = 65536, POOLS = 256;
 // the limits of a text
 export const BUCKETS = 1024, DEVICES = 10000;
-const NEXT = { straw: ": 'ceph osd crush set-all-straw-buckets-to-straw2' makes straw2 buckets of them, which can be computed, and moves little" };
+const NEXT = { straw: ": 'ceph osd crush set-all-straw-buckets-to-straw2' makes straw2 buckets of them, which can be computed" };
 
 // Why a pool can't be computed, or null. `rule` is its rule on the map `file`, and `dump` the map
 // where it is a dump.

@@ -122,8 +122,8 @@ async function filled(copy, cluster, { text, pools }, work) {
     }
 }
 
-// Pools by the text that they have, each with the tenant's newest version of it, and by the one that
-// they get later, where there is one.
+// Pools by the text that they have, each with the tenant's newest version of it, and by the one
+// that they get later, where there is one.
 export function groupsOf(cluster, pools, later = null) {
     const found = new Map();
     for (const pool of pools) {

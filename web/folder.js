@@ -13,8 +13,8 @@ const entriesOf = (folder) => new Promise((done, failed) => {
 
 const fileOf = (entry) => new Promise((done, failed) => { entry.file(done, failed); });
 
-// What a drop carries, once its folders are opened. What else stands in a folder, as a hidden file, is
-// passed over.
+// What a drop carries, once its folders are opened. What else stands in a folder, as a hidden file,
+// is passed over.
 export async function filesOfDrop(carried) {
     const entries = [...carried.items].map((it) => it.webkitGetAsEntry?.()), files = [...carried.files];
     if (!entries.some((it) => it?.isDirectory)) return files;

@@ -18,8 +18,8 @@ function bucketsOfType(map, bucket, type) {
 }
 
 // What the monitors keep on a map, with states: `mayBe` says whether a device is in. Of a group to
-// which CRUSH gives a raw list `kept` gives the pairs and the whole list that stay once nothing more
-// is removed, and `breaks` says whether they break the pool's rule.
+// which CRUSH gives a raw list `kept` gives the pairs and the whole list that stay once nothing
+// more is removed, and `breaks` says whether they break the pool's rule.
 export function keeper(map, mayBe) {
     const made = new Map(), once = (key, make) => made.get(key) ?? made.set(key, make()).get(key);
     const takes = (rule) => rule.steps.filter(([op]) => op === "take").map((it) => it[1]);
@@ -70,8 +70,8 @@ export function keeper(map, mayBe) {
     function broken(rule, pool, items) {
         return rule.steps.some((step) => (step[0] === "choose" || step[0] === "chooseleaf") && crowded(rule, pool, step, items)) || outside(rule, pool, items) || items.some((it) => it === null || !weights(rule).get(it) || !mayBe(it));
     }
-    // the list as it is by a whole list and pairs; a list of which a device is out acts no more, nor
-    // do the pairs then
+    // the list as it is by a whole list and pairs; a list of which a device is out acts no more,
+    // nor do the pairs then
     const listed = (raw, pairs, list) => (list && isIdle(list, mayBe) ? raw : paired(list ?? raw, pairs, mayBe));
     function keptOnce(rule, pool, raw, { pairs, list }) {
         if (broken(rule, pool, listed(raw, pairs, list)) || list && (String(list) === String(raw) || list.length !== pool.size)) return { pairs: [], list: undefined };

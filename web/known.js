@@ -1,14 +1,14 @@
 // What this browser knows of a tenant beside the service's replies: the pools and the states of
 // devices that it set, since no request lists these, the names of files that were imported, and
-// what a dump says beside that: what isn't computed, in words (`notes`), and the pools that are left
-// out with the devices that they may have (`left`); by pool the groups with whole upmap lists
+// what a dump says beside that: what isn't computed, in words (`notes`), and the pools that are
+// left out with the devices that they may have (`left`); by pool the groups with whole upmap lists
 // (`whole`) and with set primaries (`primaries`), and upmap items that are more than the service
 // takes (`pairs`); primary affinities by device (`affinity`); what pools take and devices hold in
 // bytes (`bytes`, `rooms`, `ratios`); flags that keep devices in (`noout`, by devices, and
-// `flags`); pools in stretch mode (`stretched`), that are being split (`splits`), and
-// groups with a temporary list (`moving`); how groups lie by the cluster's own word (`lying`,
-// `doubt`). A map may have several `texts`, of which the first ones (`shown`) show it; `sides` says
-// of pools which one they have, if not the first.
+// `flags`); pools in stretch mode (`stretched`), that are being split (`splits`), and groups with a
+// temporary list (`moving`); how groups lie by the cluster's own word (`lying`, `doubt`). A map may
+// have several `texts`, of which the first ones (`shown`) show it; `sides` says of pools which one
+// they have, if not the first.
 
 const KNOWN = "crushcalc.tenant.";
 const EMPTY = { notes: [], left: [], whole: {}, primaries: {}, pairs: {}, affinity: {}, bytes: {}, rooms: {}, ratios: {}, noout: [], flags: [], stretched: [], moving: {}, splits: [], lying: null, doubt: null, texts: 1, shown: 1, sides: {} };

@@ -124,8 +124,8 @@ export async function askGroups(path, groups, work) {
 }
 
 // What a pool's rule gives to some groups, before exceptions and before devices that are down are
-// taken out: a list of each. Of few groups each is asked for. Else all lists are, once nothing is set
-// of the pool and all devices are up; `pairs` are then set again, and so are the states.
+// taken out: a list of each. Of few groups each is asked for. Else all lists are, once nothing is
+// set of the pool and all devices are up; `pairs` are then set again, and so are the states.
 export async function rawsIn(copy, pool, version, groups, state, pairs, work) {
     const path = `/t/${copy.name}/pools/${pool.id}`;
     if (groups.length <= MOST) return new Map(Array.from(await askGroups(path, groups, work), ([group, { raw }]) => [group, raw]));

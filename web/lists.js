@@ -79,16 +79,16 @@ function others(list, lacks) {
     return list.filter((it, place) => it !== -1 && !lacks.includes(it) && list.indexOf(it) === place);
 }
 
-// How many of the pool's groups one counts for by its objects: other than 1 where pg_num is no power
-// of two, since Ceph's stable_mod gives some groups twice as many.
+// How many of the pool's groups one counts for by its objects: other than 1 where pg_num is no
+// power of two, since Ceph's stable_mod gives some groups twice as many.
 function partOf({ pg_num: groups }, group) {
     const whole = 2 ** Math.ceil(Math.log2(groups));
     return whole === groups ? 1 : groups * (groups - whole / 2 <= group && group < whole / 2 ? 2 : 1) / whole;
 }
 
 // Of groups that move, with their lists: how many copies each writes anew, and how often each
-// device joins a list and leaves one. By the groups' parts of the pool's objects: what is written in
-// all (`wrote`), and by how much each device has more (`net`).
+// device joins a list and leaves one. By the groups' parts of the pool's objects: what is written
+// in all (`wrote`), and by how much each device has more (`net`).
 function moves(pool, groups, old, next) {
     const ids = greatest(old.items, next.items) + 1, gains = new Int32Array(ids), losses = new Int32Array(ids), net = new Float64Array(ids), gainedBy = new Int32Array(groups.length);
     let wrote = 0;

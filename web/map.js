@@ -21,7 +21,9 @@ export async function readLongMap(texts) {
         parts.push(parsed(it));
         await pause();
     }
-    return joined(...all(parts));
+    const whole = all(parts);
+    await pause();
+    return joined(...whole);
 }
 
 // The devices that a text declares, by id.

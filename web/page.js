@@ -5,7 +5,7 @@ import { button, el, fault, fresh, labelled, pause, say, sayDone } from "./dom.j
 import { forgetTenant, known, learn, note, tenants } from "./known.js";
 import { devicesBelow, readLongMap, readMap, signature } from "./map.js";
 import { LONGEST, dropLeft, leave } from "./copies.js";
-import { lyingByDevice, lyingByGroup } from "./lying.js";
+import { keepWord, lyingByDevice, lyingByGroup } from "./lying.js";
 import { tenantWith, tenantsOf } from "./sides.js";
 import { Refused, crushIn, filesOf, importMap, mapIn, osdIn, takeOsd, takeRooms, takeSaved, takeStates } from "./take.js";
 import { filesOfDrop } from "./folder.js";
@@ -257,6 +257,7 @@ async function takeWhole(tenant, map, files, work, fresh) {
 
 // Compares how groups lie with what pgs.json says, or else osd-df.json, and gives it in words.
 async function takeLying(tenant, { pgs, osdDf }, work) {
+    if (pgs) keepWord(tenant, pgs.read);
     if (!pgs && !osdDf || !known(tenant).pools.length) return "";
     await openTenant(tenant, work);
     const found = pgs ? await lyingByGroup(cluster, pgs.read, work) : await lyingByDevice(cluster, work);
@@ -276,14 +277,14 @@ async function takeFullness(tenant, files, work) {
 async function takeMore(tenant, files, work) {
     if (files.saved) return { said: takeSaved(files.saved, cluster.summary) };
     if (files.states) return { said: await takeStates(cluster, files.states) };
-    const osd = osdIn(files), map = await mapIn(files, osd, (id) => cluster.map.byId.has(id), cluster.known.pools);
+    const osd = osdIn(files), map = await mapIn(files, osd, (id) => cluster.map.byId.has(id), [...cluster.known.pools, ...cluster.known.left.map((it) => it.body).filter(Boolean)]);
     if (map && osd) {
         if (signature(readMap(map.text)) !== signature(readMap(cluster.texts.get(tenant)))) await importMap(tenant, map, (file) => take([file]));
         return takeWhole(tenant, map, files, work, false);
     }
     if (osd) return takeWhole(tenant, null, files, work, false);
     if (!map) return takeFullness(tenant, files, work);
-    if (known(tenant).pools.length) return { view: "compare", file: map };
+    if (known(tenant).pools.length || known(tenant).left.length) return { view: "compare", file: map };
     const version = await importMap(tenant, map, (file) => take([file]));
     return done(tenant, `${map.name} is version ${version} of the map. `, ["pools", "Make a pool"], ["pools", "Make a pool"], version);
 }

@@ -5,8 +5,9 @@ import { count, many } from "./words.js";
 
 const NONE = 2147483647, NAMED = 4, LINES = 20;
 
-// What a dump of groups says, by pool: the number of each group, up lists one after the other, their
-// primaries, and whether the cluster is silent of it. Releases before 14 write the list alone.
+// What a dump of groups says, by pool: the number of each group, up lists one after the other,
+// their primaries, and whether the cluster is silent of it. Releases before 14 write the list
+// alone.
 export function groupsSaid(whole) {
     const pools = new Map(), rows = Array.isArray(whole) ? whole : whole.pg_stats;
     for (const row of rows) {
@@ -32,8 +33,8 @@ const same = (one, other) => one.length === other.length && one.every((it, at) =
 
 // How the groups of a pool lie beside what is computed: how many there are, of how many the cluster
 // is silent, with some of them by name (`quiet`), and how many lie otherwise, with some of them in
-// words (`lines`). `said` is what it says of the pool, or undefined, and `why` gives why a group may
-// lie otherwise.
+// words (`lines`). `said` is what it says of the pool, or undefined, and `why` gives why a group
+// may lie otherwise.
 export function comparedPool(pool, lists, said, why) {
     const places = new Int32Array(pool.pg_num).fill(-1), found = { count: pool.pg_num, silent: 0, quiet: [], differ: 0, lines: [], usage: null }, entries = new Map(), id = (group) => `${pool.id}.${group.toString(16)}`;
     said?.groups.forEach((group, at) => { if (group < pool.pg_num) places[group] = at; });

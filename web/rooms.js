@@ -12,8 +12,8 @@ export function hundredths(part) {
     return `${decimals(100 * part, 1)}%`;
 }
 
-// What an answer's pools take on each device, and how much of its room is used: before and after, or
-// null where that isn't known. `past` gives the devices that get more and are past a ratio.
+// What an answer's pools take on each device, and how much of its room is used: before and after,
+// or null where that isn't known. `past` gives the devices that get more and are past a ratio.
 export function roomsOf(cluster, found) {
     const { bytes, rooms, ratios } = cluster.known, takes = (it) => bytes[it.pool.id] ?? null, known = found.length > 0 && found.every((it) => takes(it) !== null), wholes = new Map(found.map((it) => [it, total(it)]));
     const sum = (of) => found.reduce((all, it) => all + (wholes.get(it) ? takes(it) * of(it) / wholes.get(it) : 0), 0);

@@ -1,5 +1,5 @@
-// A cluster whose map has several texts: each but the first stands in a tenant of its own beside the
-// cluster's, with the pools that are computed on it. Their names are those of copies of the
+// A cluster whose map has several texts: each but the first stands in a tenant of its own beside
+// the cluster's, with the pools that are computed on it. Their names are those of copies of the
 // cluster, so that the web server opens them to the same users, with numbers that no copy has.
 import { ask, change } from "./service.js";
 import { good, parts } from "./copies.js";

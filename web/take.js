@@ -65,8 +65,8 @@ export function crushIn(files, there) {
 }
 
 // The map of the files: its texts for the service, the first one alone where it is no dump, and the
-// dump where it is one. `pools` are those that it is for, where no osd.json says them: of those that
-// can't be computed `left` says why.
+// dump where it is one. `pools` are those that it is for, where no osd.json says them: of those
+// that can't be computed `left` says why.
 export async function mapIn(files, osd, there, pools = []) {
     const dump = crushIn(files, there);
     if (!dump) return files.text && { name: files.text.name, ...marked(files.text.text), places: {}, shown: 1, dump: null, get texts() { return [this.text]; } };
@@ -161,10 +161,10 @@ function flagged(name, map, dump) {
     return map.buckets.has(name) ? devicesBelow(map.buckets.get(name)).map((it) => it.id) : map.devices.has(name) ? [map.devices.get(name).id] : [];
 }
 
-// What of a dump the service doesn't know, by pool.
-function exceptionsOf(osd, pools, pairs) {
+// What of a dump the service doesn't know, by pool; of the pools in `left` it knows nothing.
+function exceptionsOf(osd, pools, pairs, left) {
     const by = (list, make) => Object.fromEntries(pools.map((pool) => [pool.id, list.filter(({ at }) => at[0] === pool.id && at[1] < pool.pg_num).map(make)]).filter(([, own]) => own.length));
-    const primaries = Object.entries(by(osd.primaries, ({ at, device }) => [at[1], device])).map(([id, own]) => [id, Object.fromEntries(own)]), batched = pools.filter((it) => pairs.get(it).length > PAIRS);
+    const primaries = Object.entries(by(osd.primaries, ({ at, device }) => [at[1], device])).map(([id, own]) => [id, Object.fromEntries(own)]), batched = pools.filter((it) => left.has(it) || pairs.get(it).length > PAIRS);
     return {
         whole: by(osd.lists, ({ at, devices }) => ({ group: at[1], devices })), primaries: Object.fromEntries(primaries), affinity: osd.affinity,
         pairs: Object.fromEntries(batched.map((it) => [it.id, pairs.get(it).map(({ group, from, to }) => [group, from, to])])), moving: by(osd.temporary.lists.map((at) => ({ at })), ({ at }) => at[1]),
@@ -181,8 +181,8 @@ async function removeOthers(tenant, before, pools, work) {
     }
 }
 
-// Sets what osd.json says on a cluster that has its map. `map` is that of the files, with its texts,
-// or null where osd.json came alone. `open` opens the cluster anew.
+// Sets what osd.json says on a cluster that has its map. `map` is that of the files, with its
+// texts, or null where osd.json came alone. `open` opens the cluster anew.
 export async function takeOsd(tenant, osd, map, fresh, open, work) {
     const before = known(tenant).sides;
     if (!map && (known(tenant).texts > 1 || await hasSides(tenant))) throw new Fault("This cluster's map has several texts: drop crush.json too.");
@@ -193,14 +193,18 @@ export async function takeOsd(tenant, osd, map, fresh, open, work) {
     const cluster = await open(), on = cluster.map, dump = map?.dump;
     const rules = new Map(on.rules.map((it) => [it.id, it])), { kept: pools, left: faults } = dump ? computedPools(osd.pools, (id) => dump.rules.get(id), dump.file, dump) : computedPools(osd.pools, (id) => rules.get(id), "the map", null);
     const pairs = new Map(pools.map((it) => [it, pairsOf(osd, it, on)]));
-    const left = [...faults].map(([it, why]) => ({ pool: it.id, name: it.name, devices: reached(it, on, dump), text: `pool ${it.name} (${it.id}) isn't computed: ${why}` })), lines = [...left.map((it) => it.text), ...oddities(osd, dump, pools)];
+    const left = [...faults].map(([it, why]) => ({ pool: it.id, name: it.name, body: { ...poolBody(it), min_size: it.min_size }, devices: reached(it, on, dump), text: `pool ${it.name} (${it.id}) isn't computed: ${why}` })), lines = [...left.map((it) => it.text), ...oddities(osd, dump, pools)];
     work.step("Setting the states of devices");
     const states = await setAllStates(cluster, statesOf(osd, on), { whole: fresh }), lacking = [...osd.states.keys()].filter((id) => !on.byId.has(id));
     if (lacking.length) lines.push(`${osd.file} has devices that the map lacks; they hold nothing: ${some(lacking.map((it) => `osd.${it}`))}`);
+    const missing = [...on.devices.values()].filter((it) => it.buckets.length && !osd.states.has(it.id));
+    if (missing.length) lines.push(`the map has devices that ${osd.file} lacks; they count as out and down: ${some(missing.map((it) => `osd.${it.id}`))}`);
     if (map && !dump) lines.push(`${map.name} has weights that 'crushtool -d' rounded to three decimals; crush.json ('ceph osd crush dump -f json') has exact ones`);
     // the tenant has the pools of the dump then, and no other
     await removeOthers(tenant, map ? before : {}, pools, work);
-    const own = exceptionsOf(osd, pools, pairs);
+    // a pool that isn't computed may be on another map, where its pairs count
+    for (const it of faults.keys()) pairs.set(it, pairsOf(osd, it, on));
+    const own = exceptionsOf(osd, [...pools, ...faults.keys()], pairs, faults);
     let set = 0;
     for (const pool of pools) {
         work.step(`Making the pool ${pool.name}`);

@@ -15,8 +15,8 @@ export async function plainUsage(cluster, pool, work) {
     return cluster.plain.get(pool.id);
 }
 
-// The exceptions of a pool that this browser knows. Pairs that the service has are left to it, unless
-// they are wanted.
+// The exceptions of a pool that this browser knows. Pairs that the service has are left to it,
+// unless they are wanted.
 export async function exceptionsOf(cluster, pool, work, withPairs = false) {
     const pairs = withPairs || cluster.known.pairs[pool.id] ? await exceptionsIn(cluster, pool, work.signal) : [];
     return new Exceptions(cluster.known, pool, pairs.filter((it) => cluster.map.byId.has(it.from) && cluster.map.byId.has(it.to)));

@@ -1,13 +1,14 @@
 // Two maps compared: two versions, or the newest one and a map that is tried in a copy and doesn't
 // become a version. What moves in all, and what each place gains and loses.
 import { ask, change } from "./service.js";
-import { good, report, stagesOf } from "./answer.js";
+import { good, movesByWord, report, stagesOf } from "./answer.js";
 import { meaning } from "./codes.js";
 import { button, csv, el, fault, labelled, options } from "./dom.js";
 import { answerRow, beforeAfter, beside, changePicture, groupsFolded, leftOutNote, legend, poolLines, totals, verdict } from "./change_view.js";
 import { figures } from "./figures.js";
 import { count, many, some } from "./words.js";
 import { faultOf } from "./refused.js";
+import { listsSaid } from "./lying.js";
 import { devicesIn, readMap } from "./map.js";
 import { DEVICE_HEADS, deviceFields, placesTable } from "./places.js";
 import { decimals } from "./shares.js";
@@ -60,8 +61,11 @@ async function versions(cluster, from, to, work) {
 // A map that is tried in a copy, beside the newest version.
 async function tried(cluster, file, refresh, work) {
     const { name } = file, computed = (pool) => !file.dump || pool.id in file.places, pools = poolsChosen(cluster).filter(computed), { states } = cluster.known;
-    const without = poolsChosen(cluster).filter((it) => !computed(it)), why = (pool) => [...file.left].find(([it]) => it.id === pool.id)?.[1], lacks = [...leftOut(cluster), ...without.map((it) => ({ name: it.name, text: `pool ${it.name} (${it.id}) isn't computed on ${name}: ${why(it)}` }))];
-    if (!pools.length) return [el("p", { class: "verdict unknown", id: "verdict" }, el("strong", {}, "Unknown"), ": no pool can be computed."), leftOutNote(lacks)];
+    const without = poolsChosen(cluster).filter((it) => !computed(it)), why = (pool) => [...file.left].find(([it]) => it.id === pool.id)?.[1];
+    let lacks = [...leftOut(cluster), ...without.map((it) => ({ name: it.name, text: `pool ${it.name} (${it.id}) isn't computed on ${name}: ${why(it)}` }))];
+    const said = new Map(), byWord = leftOut(cluster).map((it) => it.body).filter((it) => it && file.dump && it.id in file.places).filter((it) => said.set(it.id, listsSaid(cluster.tenant, it)).get(it.id));
+    lacks = lacks.filter((it) => !byWord.some((pool) => pool.id === it.pool));
+    if (!pools.length && !byWord.length) return [el("p", { class: "verdict unknown", id: "verdict" }, el("strong", {}, "Unknown"), ": no pool can be computed."), leftOutNote(lacks)];
     const refusals = [];
     // of several texts the first ones have the map's own weights
     let other = file.texts.length > 1 ? readMap(...file.texts.slice(0, file.shown)) : null;
@@ -82,6 +86,8 @@ async function tried(cluster, file, refresh, work) {
         throw fault;
     });
     if (!found) return refusals;
+    if (byWord.length) other ??= readMap(...file.texts.slice(0, file.shown));
+    if (byWord.length) found.push(...await movesByWord(cluster, byWord, said, later, other, work));
     const both = { ...cluster, map: union(cluster.map, other) }, all = totals(cluster, found, { before: states, after: states, map: other });
     both.name = (id) => both.map.byId.get(id)?.name ?? cluster.name(id);
     const saved = `${cluster.tenant}-${name}`;
@@ -103,7 +109,7 @@ function union(first, other) {
 
 export function showCompare(cluster, what, refresh) {
     const section = el("section", {}, el("h1", { tabindex: "-1" }, "Compare"));
-    const lacks = missing(cluster);
+    const lacks = cluster.summary.versions && what?.file && cluster.known.left.length ? null : missing(cluster);
     if (lacks) {
         section.append(lacks);
         return section;

@@ -31,11 +31,13 @@ function statesDown(cluster, ids) {
 }
 
 // Flags of the cluster, while which Ceph doesn't do by itself what is computed.
-function flagsOf({ known }, ids, fails) {
-    const flags = known.flags.filter((it) => [...HOLDING, ...fails ? ["noout"] : []].includes(it)), own = fails ? known.noout.filter(([, devices]) => devices.some((id) => ids.includes(id))).map(([name]) => name) : [];
+function flagsOf(cluster, ids, fails) {
+    const { known } = cluster, flags = known.flags.filter((it) => [...HOLDING, ...fails ? ["noout"] : []].includes(it)), own = fails ? known.noout.filter(([, devices]) => devices.some((id) => ids.includes(id))).map(([name]) => name) : [];
+    const { map } = cluster, rack = map.types.get("rack") ?? Infinity, wide = fails ? namesOf(cluster, ids).filter((it) => map.types.get(map.buckets.get(it)?.type) >= rack) : [];
     return [
         flags.length > 0 && `osd.json has the ${flags.length === 1 ? "flag" : "flags"} ${some(flags)}: until Ceph is without ${flags.length === 1 ? "it" : "them"}, it doesn't do all of this`,
         own.length > 0 && `osd.json has the flag noout of ${some(own)}: Ceph marks out none of ${own.length === 1 ? "its" : "their"} devices by itself`,
+        wide.length > 0 && `Ceph marks out by itself no whole rack, nor what is above racks (mon_osd_down_out_subtree_limit, unless it was set): ${some(wide)}`,
     ];
 }
 

@@ -10,6 +10,7 @@ from collections import defaultdict
 from page import TOP, first, unlike
 
 CLUSTERS = TOP / "tests" / "crushplan" / "clusters"
+FILES = ("crush.json", "osd.json", "df.json", "osd-df.json", "pgs.json")
 
 
 def counted(number):
@@ -56,12 +57,14 @@ def plan(program, folder, command, *words):
     return json.loads(ran.stdout)
 
 
-def dropped(page, folder):
-    """A new tenant of the cluster's two dumps."""
-    page.fresh()
-    page.browser.drop((folder / "crush.json").read_text(), "crush.json", ((folder / "osd.json").read_text(), "osd.json"))
+def dropped(page, folder, names=FILES):
+    """A new tenant of those of the cluster's files that are there; its name."""
+    tenant = page.fresh()
+    files = [((folder / it).read_text(), it) for it in names if (folder / it).exists()]
+    page.browser.drop(*files[0], *files[1:])
     page.browser.until(lambda: "The cluster is there" in page.browser.text("#said"), "the dumps aren't taken")
     page.settled()
+    return tenant
 
 
 def shown_by(page, level, table):

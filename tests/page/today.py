@@ -1,14 +1,14 @@
-"""Clusters as Ceph makes them today, by all the files that `crushplan fetch` writes: straw2, trees of
-classes, rules with several takes, weight sets, whole upmap lists, set primaries, affinities, more
-upmap items than the service takes at once, bytes, and the cluster's own word of where its groups lie.
-What the page shows is what crushplan prints."""
+"""Clusters as Ceph makes them today, by all the files that `crushplan fetch` writes: straw2, trees
+of classes, rules with several takes, weight sets, whole upmap lists, set primaries, affinities, more
+upmap items than the service takes at once, bytes, and the cluster's own word of where its groups
+lie. What the page shows is what crushplan prints."""
 import json
 import random
 import tempfile
 from pathlib import Path
 
 from clusters import ONE, TUNABLES, TYPES, Cluster
-from kept import field, groups_shown, plan, same_compare, same_drain, same_failure, same_usage
+from kept import dropped, field, groups_shown, plan, same_compare, same_drain, same_failure, same_usage
 from page import first, unlike
 
 GIB = 1 << 30
@@ -100,16 +100,6 @@ def files_of(folder, program, crush, osd, full=0.6):
     nodes = [{"id": it["osd"], "name": f"osd.{it['osd']}", "type": "osd", "kb": 80 * GIB // 1024, "kb_used": round((counts.get(it["osd"], 0) * 3 * full + 4) * GIB / 1024), "pgs": counts.get(it["osd"], 0)} for it in osd["osds"]]
     (folder / "osd-df.json").write_text(json.dumps({"nodes": nodes, "stray": [], "summary": {}}))
     return groups
-
-
-def dropped(page, folder, names=("crush.json", "osd.json", "df.json", "osd-df.json", "pgs.json")):
-    """A new tenant of the files."""
-    tenant = page.fresh()
-    files = [((folder / it).read_text(), it) for it in names if (folder / it).exists()]
-    page.browser.drop(*files[0], *files[1:])
-    page.browser.until(lambda: "The cluster is there" in page.browser.text("#said"), "the dumps aren't taken")
-    page.settled()
-    return tenant
 
 
 def with_folder(case):
@@ -266,17 +256,46 @@ def upmap_lines_with_set_primaries_are_tried(page, folder):
 
 
 @with_folder
+def straw_buckets_that_become_straw2_are_compared_by_the_clusters_word(page, folder):
+    """Pools below straw buckets aren't computed; where the cluster says how they lie, another map on
+    which they are is compared with that."""
+    today, program = Today(), page.program
+    crush, osd = today.crush(), today.osd(POOLS[:2], STATES)
+    groups = files_of(folder, program, crush, osd)
+    pgs = json.loads((folder / "pgs.json").read_text())
+    for at in (3, 20, 33, 70):
+        up = groups[at]["up"]
+        pgs["pg_stats"][at]["up"] = up[1:] + [next(it for it in range(0, 24, 2) if it // 4 not in {of // 4 for of in up})]
+    (folder / "pgs.json").write_text(json.dumps(pgs))
+    (folder / "new.json").write_text(json.dumps(crush))
+    for it in crush["buckets"]:
+        it["alg"] = "straw"
+    (folder / "crush.json").write_text(json.dumps(crush))
+    dropped(page, folder)
+    notes, check = page.browser.text("#not-computed"), plan(program, folder, "check")
+    said = plan(program, folder, "compare", folder / "new.json", "--groups")
+    page.browser.drop((folder / "new.json").read_text(), "new.json")
+    page.browser.one("#answer")
+    page.settled()
+    figures = page.figures()
+    return first(
+        *(None if it["why"] in notes else f"{it['why']!r} isn't in {notes!r}" for it in check["pools"]), unlike((figures["moved"], figures["anew"]), (str(said["moved"]), str(said["copies"]))),
+        unlike(groups_shown(page), {it["id"]: [field(it["before"]), field(it["after"])] for it in said["groups"]}, "groups:"), None if said["moved"] == 4 else str(said),
+    )
+
+
+@with_folder
 def more_upmap_items_than_are_taken_at_once(page, folder):
     """A pool with more than 1,024 pairs: set part by part in a copy, as crushplan does."""
     today, program = Today(3, 4, 4, 7), page.program
-    pools = (("photos", 1, 3, 2, 0, 2048),)
+    pools = (("photos", 1, 3, 2, 0, 512),)
     osd = today.osd(pools, {5: (0.5, True)})
     (folder / "crush.json").write_text(json.dumps(today.crush()))
     (folder / "osd.json").write_text(json.dumps(osd))
     items = []
-    for it in plan(program, folder, "usage", "--groups")["groups"][:1300]:
-        free = [of for of in range(today.count) if of // 4 not in {device // 4 for device in it["up"]}]
-        items.append({"pgid": it["id"], "mappings": [{"from": it["up"][0], "to": today.chance.choice(free)}]})
+    for it in plan(program, folder, "usage", "--groups")["groups"][:400]:
+        hosts = [of for of in range(12) if of not in {device // 4 for device in it["up"]}]
+        items.append({"pgid": it["id"], "mappings": [{"from": old, "to": 4 * host + today.chance.randrange(4)} for old, host in zip(it["up"], today.chance.sample(hosts, 3))]})
     osd["pg_upmap_items"] = items
     files_of(folder, program, today.crush(), osd, 0.05)
     dropped(page, folder)
@@ -286,7 +305,7 @@ def more_upmap_items_than_are_taken_at_once(page, folder):
     page.browser.named("form[aria-label='A group'] button", "Where is it?").click()
     found = page.browser.run("return [...document.querySelectorAll('#found [data-device]')].map((it) => Number(it.dataset.device))") if page.browser.one("#found") else []
     lies = plan(program, folder, "locate", "--group", "1.9")["groups"][0]["up"]
-    return first(None if "1,300 upmap items" in said and "2,048 of 2,048 groups lie as computed" in said else said, unlike(found, lies, "group 1.9:"), same_usage(page, program, folder), same_drain(page, program, folder, ["host7"]))
+    return first(None if "1,200 upmap items" in said and "512 of 512 groups lie as computed" in said else said, unlike(found, lies, "group 1.9:"), same_usage(page, program, folder), same_drain(page, program, folder, ["host7"]))
 
 
 @with_folder
@@ -357,5 +376,5 @@ def a_text_of_straw2_gets_its_mark(page):
 def cases():
     return (
         a_whole_cluster_of_today_is_answered_as_crushplan_does, groups_that_lie_otherwise_make_every_answer_unknown, a_folder_without_pgs_is_compared_by_device, weight_sets_are_a_text_each,
-        upmap_lines_with_set_primaries_are_tried, more_upmap_items_than_are_taken_at_once, a_tree_over_the_most_buckets, the_folder_of_fetch_is_dropped_as_it_is, what_stops_in_stretch_mode_is_unknown, a_text_of_straw2_gets_its_mark,
+        upmap_lines_with_set_primaries_are_tried, straw_buckets_that_become_straw2_are_compared_by_the_clusters_word, more_upmap_items_than_are_taken_at_once, a_tree_over_the_most_buckets, the_folder_of_fetch_is_dropped_as_it_is, what_stops_in_stretch_mode_is_unknown, a_text_of_straw2_gets_its_mark,
     )
