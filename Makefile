@@ -82,7 +82,7 @@ help:
 ##                with those of Ceph's own library, osdmaptool and crushtool
 ## make cluster-check   starts real Ceph clusters on this machine, foretells by crushplan what drains,
 ##                failures, upmap items and changed maps of the seed SEED=S (the time) do to them,
-##                does it, and compares: some 10 minutes
+##                does it, and compares: some 20 minutes
 ## make http-check      compares replies of the server with those of scripts, by curl, nginx and
 ##                other clients
 ## make page-check      tries the page in chromium; pictures of it are in build/page-check

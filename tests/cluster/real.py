@@ -46,6 +46,7 @@ mon osd min up ratio = 0
 mon osd adjust heartbeat grace = false
 osd heartbeat grace = 600
 osd heartbeat interval = 30
+mon mgr beacon grace = 600
 # a group waits until what an OSD that ended was allowed to answer is over: 6 seconds, not 480
 osd pool default read lease ratio = 0.01
 osd crush update on start = false
