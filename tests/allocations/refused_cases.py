@@ -32,8 +32,8 @@ def two_tenants():
 
 
 def maps():
-    """An import, its repeat, a test, a second import, a refused one, tests on both versions, and one
-    with a straw2 bucket; and the same again for a tenant of the same name."""
+    """An import, its repeat, a test, a second import, a refused one, tests on both versions, and
+    one with a straw2 bucket; and the same again for a tenant of the same name."""
     first, second = messages.import_of(tiny(3), "m1"), messages.import_of(tiny(5), "m2")
     straw2 = messages.import_of(straw2_tiny(7), "m4")
     calls = [

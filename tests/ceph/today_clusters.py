@@ -1,5 +1,5 @@
-"""Clusters of today for the comparison of crushplan: straw2 at every level, device classes and rules that take one,
-weight sets of all pools and of one, upmap items."""
+"""Clusters of today for the comparison of crushplan: straw2 at every level, device classes and
+rules that take one, weight sets of all pools and of one, upmap items."""
 import random
 
 from make_maps import HOST, ONE, chosen, leaves, tree_of, weight_text
@@ -10,7 +10,8 @@ ALL_POOLS = 2**64 - 1  # the key of the weight set of all pools, as crushtool wr
 
 
 class TodayMap(PlanMap):
-    """A map with a class for each device, by a draw, and weight sets: `sets` are the ids of their pools."""
+    """A map with a class for each device, by a draw, and weight sets: `sets` are the ids of their
+    pools."""
 
     def __init__(self, name, sets=()):
         super().__init__(name)

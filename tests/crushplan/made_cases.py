@@ -18,8 +18,8 @@ def kinds(said, name="uncomputed"):
 
 
 def straw(runner, folder):
-    """A root of straw buckets is named with its pool and devices, and what to do; a pool on another root is
-    computed."""
+    """A root of straw buckets is named with its pool and devices, and what to do; a pool on another
+    root is computed."""
     crush = crush_dump()
     crush["devices"] += [{"id": it, "name": f"osd.{it}"} for it in (12, 13, 14)]
     crush["buckets"] += [bucket(-20 - it, f"fast{it}", 1, "straw", [(12 + it, ONE)]) for it in range(3)]

@@ -1,5 +1,6 @@
-"""Clusters of today: straw2, classes, weight sets, whole upmap lists, primaries, the cluster's own word, stretch mode;
-and what still isn't computed. Where groups lie is computed by `placed.py`, primaries here."""
+"""Clusters of today: straw2, classes, weight sets, whole upmap lists, primaries, the cluster's own
+word, stretch mode; and what still isn't computed. Where groups lie is computed by `placed.py`,
+primaries here."""
 import copy
 import json
 import subprocess
@@ -52,8 +53,8 @@ def straw2(runner, folder):
 
 
 def converted(runner, folder):
-    """A map of list buckets of which straw2 ones are made; and one of straw buckets, from where the cluster says that its
-    groups lie."""
+    """A map of list buckets of which straw2 ones are made; and one of straw buckets, from where the
+    cluster says that its groups lie."""
     write(folder, uneven("list"), osd_dump(15))
     (folder / "new.json").write_text(json.dumps(uneven()))
     before, after = (Placed(text_of(uneven(it)), **PHOTOS) for it in ("list", "straw2"))
@@ -96,8 +97,8 @@ def sets(runner, folder):
 
 
 def lists(runner, folder):
-    """A whole upmap list is where its group lies; items act on it; while a device of it is out neither acts, and where
-    one of it is lost the group moves."""
+    """A whole upmap list is where its group lies; items act on it; while a device of it is out
+    neither acts, and where one of it is lost the group moves."""
     crush = uneven()
     placed = Placed(text_of(crush), **PHOTOS)
     free = {group: next(it for it in range(5) if it not in [device // 3 for device in placed.raw[group]]) for group in range(64)}
@@ -128,7 +129,8 @@ def led(pool_id, group, up, affinity, front):
 
 
 def primaries(runner, folder):
-    """Primaries by affinity and as they are set: where groups lie, how many a device has, and what a drain makes of it."""
+    """Primaries by affinity and as they are set: where groups lie, how many a device has, and what
+    a drain makes of it."""
     crush = uneven()
     crush["rules"].append(rule(1, "parts", (STEPS[0], {"op": "chooseleaf_indep", "num": 0, "type": "host"}, STEPS[2]), 3))
     osd = osd_dump(15, [pool(1, "photos"), pool(2, "parts", type=3, crush_rule=1)])
@@ -216,7 +218,8 @@ def word(runner, folder):
 
 
 def sites(runner, folder):
-    """In stretch mode a failure's placements are computed, and what stops isn't; noout of buckets and classes."""
+    """In stretch mode a failure's placements are computed, and what stops isn't; noout of buckets
+    and classes."""
     crush, osd = uneven(), osd_dump(15)
     for it in crush["devices"]:
         it["class"] = "ssd" if it["id"] < 6 else "hdd"
@@ -232,7 +235,8 @@ def sites(runner, folder):
 
 
 def many_buckets(runner, folder):
-    """Two trees that have more buckets together than a text may have are computed one by one; one alone is named."""
+    """Two trees that have more buckets together than a text may have are computed one by one; one
+    alone is named."""
     crush = crush_dump(700, 1, "straw2", "straw2")
     other = crush_dump(700, 1, "straw2", "straw2")
     crush["devices"] += [{"id": it + 700, "name": f"osd.{it + 700}"} for it in range(700)]
@@ -253,7 +257,8 @@ def many_buckets(runner, folder):
 
 
 def left_out(runner, folder):
-    """MSR rules, local tries and pools over 32 places are named with what to do; a tier isn't located."""
+    """MSR rules, local tries and pools over 32 places are named with what to do; a tier isn't
+    located."""
     crush = uneven()
     crush["rules"] += [rule(1, "msr", STEPS, 4), rule(2, "tries", ({"op": "set_choose_local_tries", "num": 2}, *STEPS))]
     write(folder, crush, osd_dump(15, [pool(1, "photos", tiers=[3], read_tier=3), pool(2, "new", crush_rule=1), pool(3, "old", crush_rule=2), pool(4, "wide", size=33)]))
@@ -265,7 +270,8 @@ def left_out(runner, folder):
 
 
 def words(runner, folder):
-    """Devices past near-full stand in the sentence; nan in osd-df.json is left out; an unproved program is named."""
+    """Devices past near-full stand in the sentence; nan in osd-df.json is left out; an unproved
+    program is named."""
     crush = crush_dump(alg="straw2", root="straw2")
     old = Placed(text_of(crush), **PHOTOS)
     new = Placed(text_of(crush), reweights={0: 0, 1: 0, 2: 0}, **PHOTOS)
@@ -286,7 +292,8 @@ def words(runner, folder):
 
 
 def outputs(runner, folder):
-    """A full disk and a closed standard output are named; a terminal of Latin-1 has a mark for what it lacks."""
+    """A full disk and a closed standard output are named; a terminal of Latin-1 has a mark for what
+    it lacks."""
     crush = crush_dump()
     crush["buckets"][1]["name"] = "höst→0"
     write(folder, crush, osd_dump())

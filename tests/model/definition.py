@@ -1,7 +1,7 @@
 """The definition's reply to a request, and what its tenant has afterwards, for requests on the few
 maps that are named here: those of one device in one bucket, with the rule 0 or 1, of which some
-declare two devices more and some have a straw2 bucket, and one that crushtool wrote. Written from the rules of requests; hashes
-are those of crush.py."""
+declare two devices more and some have a straw2 bucket, and one that crushtool wrote. Written from
+the rules of requests; hashes are those of crush.py."""
 import collections
 import json
 import pathlib

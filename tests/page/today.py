@@ -1,7 +1,7 @@
 """Clusters as Ceph makes them today, by all the files that `crushplan fetch` writes: straw2, trees
-of classes, rules with several takes, weight sets, whole upmap lists, set primaries, affinities, more
-upmap items than the service takes at once, bytes, and the cluster's own word of where its groups
-lie. What the page shows is what crushplan prints."""
+of classes, rules with several takes, weight sets, whole upmap lists, set primaries, affinities,
+more upmap items than the service takes at once, bytes, and the cluster's own word of where its
+groups lie. What the page shows is what crushplan prints."""
 import json
 import random
 import tempfile
@@ -257,8 +257,8 @@ def upmap_lines_with_set_primaries_are_tried(page, folder):
 
 @with_folder
 def straw_buckets_that_become_straw2_are_compared_by_the_clusters_word(page, folder):
-    """Pools below straw buckets aren't computed; where the cluster says how they lie, another map on
-    which they are is compared with that."""
+    """Pools below straw buckets aren't computed; where the cluster says how they lie, another map
+    on which they are is compared with that."""
     today, program = Today(), page.program
     crush, osd = today.crush(), today.osd(POOLS[:2], STATES)
     groups = files_of(folder, program, crush, osd)

@@ -45,7 +45,8 @@ class AfterDrain:
         return {*takes, *(it for item in takes for it in self.plan.map.buckets_below(item))}
 
     def ask_purge(self, drained):
-        """Asks what removing the devices moves once they are drained, after the stages that drained them."""
+        """Asks what removing the devices moves once they are drained, after the stages that drained
+        them."""
         if not self.pools:
             return {}
         return Stages(self.plan, self.pools, drained).set_map(self.gone, self.texts[0])

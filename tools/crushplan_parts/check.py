@@ -17,8 +17,8 @@ FILES = (
 
 
 def check(plan, asked):
-    """Answers what of a folder can be computed, and whether groups lie as computed; with --mend it writes the map's text
-    with the holes filled."""
+    """Answers what of a folder can be computed, and whether groups lie as computed; with --mend it
+    writes the map's text with the holes filled."""
     pools = [{"pool": it.id, "name": it.name, "size": it.size, "min_size": it.min_size, "computed": it.id in plan.pools, "why": plan.left_out.get(it.id, (None, None))[1]} for it in plan.cluster.pools.values()]
     count = sum(it["computed"] for it in pools)
     status = 0 if count == len(pools) and pools else 1 if count else 2
@@ -39,7 +39,8 @@ def check(plan, asked):
 
 
 class Lying:
-    """Whether groups lie as computed: by pgs.json each of them, else by osd-df.json how many each device has."""
+    """Whether groups lie as computed: by pgs.json each of them, else by osd-df.json how many each
+    device has."""
 
     def __init__(self, plan):
         self.plan, self.compared, self.devices, self.looked = plan, None, [], False
@@ -66,7 +67,8 @@ class Lying:
         return "; each device has as many groups as computed" if self.looked else ""
 
     def blocks(self):
-        """Returns what is said beside the sentence: the groups that differ, or how it can be known."""
+        """Returns what is said beside the sentence: the groups that differ, or how it can be
+        known."""
         if self.compared and len(self.compared.others) > 1:
             return ["Groups that lie otherwise in the cluster:\n" + "\n".join(f"  {it}" for it in self.compared.lines()[:MOST_LINES])]
         if self.compared or not self.plan.pools or self.plan.cluster.described:

@@ -32,7 +32,8 @@ def read_new(plan, path):
 
 
 class NewMap:
-    """A changed map as crushcalc takes it, with the pools that it can compute, by id, and those that it can't."""
+    """A changed map as crushcalc takes it, with the pools that it can compute, by id, and those
+    that it can't."""
 
     def __init__(self, plan, map_):
         self.plan, self.map, self.left_out, self.pools = plan, map_, [], {}
@@ -64,8 +65,9 @@ class NewMap:
         return [Compared(plan, self.map, it, before[it.id], stages.usages[it.id], moves[it.id]) for it in pools]
 
     def changes_by_word(self):
-        """Returns what moves in the pools that can be computed on the new map alone, as those of straw buckets of which
-        it makes straw2 ones: from where the cluster itself says that their groups lie."""
+        """Returns what moves in the pools that can be computed on the new map alone, as those of
+        straw buckets of which it makes straw2 ones: from where the cluster itself says that their
+        groups lie."""
         plan, own = self.plan, {}
         for id_ in list(plan.left_out):
             pool = plan.cluster.pools[id_]
@@ -138,7 +140,8 @@ def nothing(new):
 
 
 def primary(plan, pool, group, up):
-    """Returns the primary of an up list: the first device, but for affinities, which change no order of an erasure pool."""
+    """Returns the primary of an up list: the first device, but for affinities, which change no
+    order of an erasure pool."""
     return led(pool, group, up, plan.exceptions.affinity)[1] if pool.kind == "erasure" else first_of(up)
 
 

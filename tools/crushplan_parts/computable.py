@@ -1,4 +1,5 @@
-"""Which pools can be computed on a map, and why others can't: a kind, and words that say what to do next."""
+"""Which pools can be computed on a map, and why others can't: a kind, and words that say what to do
+next."""
 from . import sets
 from .crush_map import COMPUTED
 from .faults import counted, some
@@ -12,8 +13,8 @@ NEXT = {
 
 
 def pool_fault(map_, pool, described=False):
-    """Returns why a pool can't be computed on a map, as a kind and words, or None. `described` is whether the command
-    line describes the pools."""
+    """Returns why a pool can't be computed on a map, as a kind and words, or None. `described` is
+    whether the command line describes the pools."""
     rule = map_.rules.get(pool.rule)
     if rule is None:
         return "rule", f"{map_.file} lacks its rule {pool.rule}"

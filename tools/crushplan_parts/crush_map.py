@@ -50,8 +50,9 @@ class Rule:
 
 @dataclasses.dataclass
 class WeightSet:
-    """Weights by which pools are placed instead of those of the map (choose_args). `rows` are by bucket:
-    a list of weights for each position. `with_ids` are the buckets that also have other ids for their items."""
+    """Weights by which pools are placed instead of those of the map (choose_args). `rows` are by
+    bucket: a list of weights for each position. `with_ids` are the buckets that also have other ids
+    for their items."""
 
     rows: dict
     with_ids: list = dataclasses.field(default_factory=list)
@@ -61,7 +62,8 @@ class WeightSet:
 @dataclasses.dataclass
 class CrushMap:
     """A whole map. `devices` are names by id, `classes` classes by id; `file` is where it was read,
-    `rounded` whether its weights have three decimals alone. `weight_sets` are by the id of a pool, or -1."""
+    `rounded` whether its weights have three decimals alone. `weight_sets` are by the id of a pool,
+    or -1."""
 
     file: str
     rounded: bool
@@ -83,7 +85,8 @@ class CrushMap:
         return [(bucket, place) for bucket in self.buckets.values() for place in bucket.holes()]
 
     def shadows(self):
-        """Returns the ids of the buckets that have one class alone, by the id of their bucket and the class."""
+        """Returns the ids of the buckets that have one class alone, by the id of their bucket and
+        the class."""
         ids = {it.name: it.id for it in self.buckets.values() if not it.shadow}
         found = {(ids.get(it.name.rsplit("~", 1)[0]), it.shadow): it.id for it in self.buckets.values() if it.shadow}
         return {(bucket, class_): id_ for (bucket, class_), id_ in found.items() if bucket is not None}

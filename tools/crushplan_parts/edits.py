@@ -20,7 +20,8 @@ def copied(map_):
 
 
 def set_weight(map_, item, weight, with_sets=True, with_shadows=True):
-    """Gives an item a weight in each bucket that has it, and the buckets above the sums; with it in weight sets."""
+    """Gives an item a weight in each bucket that has it, and the buckets above the sums; with it in
+    weight sets."""
     for bucket in list(map_.buckets.values()):
         if (with_shadows or not bucket.shadow) and any(it == item for it, _ in bucket.items):
             set_in_bucket(map_, bucket, item, weight, with_sets, with_shadows)
@@ -43,8 +44,8 @@ def place_of(bucket, item):
 
 
 def make_whole(map_):
-    """Gives each straw2 bucket that lacks rows of a weight set some of its own weights, and in all rows each bucket the
-    sums of its own: Ceph does so at each change of a weight."""
+    """Gives each straw2 bucket that lacks rows of a weight set some of its own weights, and in all
+    rows each bucket the sums of its own: Ceph does so at each change of a weight."""
     for own in map_.weight_sets.values():
         positions = max(map(len, own.rows.values()), default=0)
         for it in map_.buckets.values() if positions else ():
@@ -95,7 +96,8 @@ def weighed(map_, devices, weight=0):
 
 
 def purged(map_, devices):
-    """Returns the map without devices, which are removed one after the other. Ceph then makes the trees of classes anew."""
+    """Returns the map without devices, which are removed one after the other. Ceph then makes the
+    trees of classes anew."""
     found = copied(map_)
     for it in devices:
         remove(found, it)

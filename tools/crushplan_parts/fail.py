@@ -13,8 +13,8 @@ MOST_ASKED = 60_000  # groups that are asked for at once, of which each is kept
 
 
 def stops(pool, copies):
-    """Returns whether a group's I/O stops with so many copies, as far as is known: in stretch mode it also counts where
-    they are, and Ceph changes min_size by itself."""
+    """Returns whether a group's I/O stops with so many copies, as far as is known: in stretch mode
+    it also counts where they are, and Ceph changes min_size by itself."""
     return copies < pool.min_size and not pool.stretched
 
 
@@ -69,7 +69,8 @@ class Failure:
     """Devices that go down, and then out."""
 
     def __init__(self, plan, start, devices, lists=None, levels=None):
-        """Takes the lists before, while they are down and once they are out, where they were asked for."""
+        """Takes the lists before, while they are down and once they are out, where they were asked
+        for."""
         self.devices = devices
         before, while_down, after = lists or Stages(plan, start.touched).set_states(stages_of(plan, devices), start.wanted(devices), start.before)
         self.down = Down(plan, start, while_down)
@@ -113,7 +114,8 @@ def rows_of(plan, it):
 
 
 def flagged(plan, devices):
-    """Returns the names of devices, buckets and classes with the flag noout that have some of these devices."""
+    """Returns the names of devices, buckets and classes with the flag noout that have some of these
+    devices."""
     found, own = [], set(devices)
     for name, flags in plan.cluster.own_flags.items():
         class_ = name.removeprefix("the class ")
@@ -148,7 +150,8 @@ class Each:
         self.stretched = plan.stretched(devices)
         stopped = self.failure.down.stopped
         self.status = status_of(plan, self.failure.summary, self.stay, stopped) or (UNKNOWN if self.stretched else 0)
-        # nothing of it was computed where no computed pool can have groups on its devices, and another has
+        # nothing of it was computed where no computed pool can have groups on its devices, and
+        # another has
         self.is_blank = self.stay.is_unknown() and not plan.touched(devices)
 
     def order(self):
@@ -209,7 +212,8 @@ def fail_each(plan, asked):
 
 
 def parts_of(start, units):
-    """Yields parts of the buckets that fail in turn: so many that not too many groups are asked for at once."""
+    """Yields parts of the buckets that fail in turn: so many that not too many groups are asked for
+    at once."""
     part, room = [], MOST_ASKED
     for unit in units:
         count = 2 * sum(map(len, start.wanted(unit[1]).values()))

@@ -73,7 +73,8 @@ def locate_objects(plan, asked):
 
 
 def placements_of(plan, pool, groups):
-    """Asks where groups of a pool lie: with all upmap items, of which a request by a name may lack some."""
+    """Asks where groups of a pool lie: with all upmap items, of which a request by a name may lack
+    some."""
     run = plan.run([pool.id])
     asked = run.lists(pool.id, set(groups))
     plan.answer(run)

@@ -65,7 +65,8 @@ def write_out(text):
 
 
 def open_streams():
-    """Has both streams there, also where they were closed, and characters that a terminal lacks written as a mark."""
+    """Has both streams there, also where they were closed, and characters that a terminal lacks
+    written as a mark."""
     if sys.stderr is None:
         sys.stderr = open(os.devnull, "w")
     if sys.stdout is None:
@@ -95,7 +96,8 @@ class Closed:
 
 
 def doubted(answer, doubt):
-    """Returns an answer as one that isn't known, where the cluster itself says otherwise of its groups."""
+    """Returns an answer as one that isn't known, where the cluster itself says otherwise of its
+    groups."""
     if doubt:
         answer.status = UNKNOWN
         answer.sentence = f"unknown: {doubt}." + (f" As computed: {answer.sentence}" if answer.sentence else "")

@@ -13,7 +13,8 @@ NARROW = 20  # of a last column whose words go on in further lines
 
 class Answer:
     """What a command found: its status, one sentence, the fields of its JSON, blocks of text for
-    people, and the rows of its CSV with their heads first. The fields may be a function that returns them."""
+    people, and the rows of its CSV with their heads first. The fields may be a function that
+    returns them."""
 
     def __init__(self, status, sentence, fields, blocks, rows):
         self.status, self.sentence, self.fields, self.blocks, self.rows = status, sentence, fields, blocks, rows
@@ -21,7 +22,8 @@ class Answer:
 
 class Table:
     """Rows under heads; numbers stand at the right. A title stands above. Where a terminal is too
-    narrow, the columns `spare` are left out, the words of a last column go on below, or columns are cut."""
+    narrow, the columns `spare` are left out, the words of a last column go on below, or columns are
+    cut."""
 
     def __init__(self, heads, rows, title=None, spare=()):
         self.heads, self.rows, self.title, self.spare = heads, rows, title, spare

@@ -1,5 +1,5 @@
-"""The cluster's own word: where it says that groups lie (pgs.json, 'ceph pg dump pgs_brief -f json'), beside what is
-computed; or without it how many groups each device has (osd-df.json)."""
+"""The cluster's own word: where it says that groups lie (pgs.json, 'ceph pg dump pgs_brief -f
+json'), beside what is computed; or without it how many groups each device has (osd-df.json)."""
 from .cluster import OSD_DF, PGS
 from .faults import counted, some
 from .output import devices_text
@@ -9,8 +9,8 @@ MOST_NAMED = 4  # groups that are named
 
 
 class Compared:
-    """How groups lie that were computed, beside the cluster's word: how many, those it says nothing of, and those that
-    lie otherwise, with why they may."""
+    """How groups lie that were computed, beside the cluster's word: how many, those it says nothing
+    of, and those that lie otherwise, with why they may."""
 
     def __init__(self, plan, placements):
         """Takes placements by pool and group."""
@@ -85,7 +85,8 @@ class Compared:
 
 
 def entries_said(plan, pool):
-    """Returns how many entries each device has of a pool by the cluster's word, or None where it is silent of a group."""
+    """Returns how many entries each device has of a pool by the cluster's word, or None where it is
+    silent of a group."""
     own, found = plan.cluster.groups.get(pool.id, {}), {}
     if any(not is_said(own.get(group)) for group in range(pool.pg_num)):
         return None
@@ -97,8 +98,8 @@ def entries_said(plan, pool):
 
 
 def doubt_by_usage(plan, usages):
-    """Returns why no answer holds, where devices have other numbers of groups in the cluster than are computed, or
-    None. `usages` are by pool."""
+    """Returns why no answer holds, where devices have other numbers of groups in the cluster than
+    are computed, or None. `usages` are by pool."""
     if plan.cluster.groups is not None:
         for id_, usage in usages.items():
             pool, said = plan.pools[id_], entries_said(plan, plan.pools[id_])
@@ -115,13 +116,15 @@ def doubt_by_usage(plan, usages):
 
 
 def is_steady(plan, usages):
-    """Returns whether osd-df.json can say how many groups of all pools each device has: while none moves."""
+    """Returns whether osd-df.json can say how many groups of all pools each device has: while none
+    moves."""
     cluster = plan.cluster
     return usages.keys() == cluster.pools.keys() and not cluster.described and not cluster.temporary.get("pg_temp")
 
 
 def by_device(plan, usages):
-    """Returns the devices that have other numbers of groups by osd-df.json than as computed, in words."""
+    """Returns the devices that have other numbers of groups by osd-df.json than as computed, in
+    words."""
     if not is_steady(plan, usages):
         return []
     found = []

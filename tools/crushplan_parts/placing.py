@@ -1,5 +1,5 @@
-"""What of a cluster is computed, and by which questions to crushcalc: where groups lie, which can move, how much lies on
-each device."""
+"""What of a cluster is computed, and by which questions to crushcalc: where groups lie, which can
+move, how much lies on each device."""
 from .cluster import State
 from .computable import MOST_POOLS, pool_fault, sets_in_use
 from .faults import Fault, counted, some
@@ -28,8 +28,9 @@ class Note:
 
 
 class Plan:
-    """A cluster with what of it is computed. `pools` are the computed ones, by id; `texts` those of its map; `known` the
-    devices that they declare; `doubt` says why no answer holds, where the cluster itself says otherwise, or is None."""
+    """A cluster with what of it is computed. `pools` are the computed ones, by id; `texts` those of
+    its map; `known` the devices that they declare; `doubt` says why no answer holds, where the
+    cluster itself says otherwise, or is None."""
 
     def __init__(self, cluster, client):
         self.cluster, self.client, self.map, self.tree = cluster, client, cluster.map, Tree(cluster.map)
@@ -77,8 +78,8 @@ class Plan:
             self.leave_out(pool, "limit", f"crushcalc takes {MOST_POOLS} pools")
 
     def accepted(self, map_, pools, leave_out):
-        """Returns the texts of a map for some pools, a dictionary, without the rules and pools that the service refuses:
-        these are left out."""
+        """Returns the texts of a map for some pools, a dictionary, without the rules and pools that
+        the service refuses: these are left out."""
         for _ in range(MOST_FAULTS):
             texts = self.written(map_, pools)
             if not pools:
@@ -97,11 +98,13 @@ class Plan:
         raise Fault(f"{map_.file}: crushcalc refuses more than {MOST_FAULTS} declarations of it")
 
     def written(self, map_, pools):
-        """Returns the texts of a map for pools: with the devices that have states, or that the present map has."""
+        """Returns the texts of a map for pools: with the devices that have states, or that the
+        present map has."""
         return Texts(map_, pools.values(), self.cluster.states.keys() | self.map.devices.keys())
 
     def touched_by(self, texts, text, line, pools):
-        """Returns the declaration that a line of a text belongs to, in words, and the pools that it touches."""
+        """Returns the declaration that a line of a text belongs to, in words, and the pools that it
+        touches."""
         map_, (kind, key) = texts.map, text.at_line(line)
         own = [it for it in pools.values() if texts.of[it.id] is text]
         if kind == "rule":
@@ -185,7 +188,8 @@ class Plan:
         return [it for it in self.pools.values() if devices & self.reach(it) or self.with_exception_to(it.id, devices)]
 
     def stretched(self, devices):
-        """Returns the pools of stretch mode that may have groups on devices: what stops in them isn't computed."""
+        """Returns the pools of stretch mode that may have groups on devices: what stops in them
+        isn't computed."""
         return [it for it in self.touched(devices) if it.stretched]
 
     def with_exception_to(self, pool, devices):
@@ -200,21 +204,25 @@ class Plan:
             self.doubt = self.doubt or Compared(self, placements).doubt()
 
     def doubt_usage(self, usages):
-        """Doubts all answers where devices have other numbers of groups, by pool, than the cluster itself says."""
+        """Doubts all answers where devices have other numbers of groups, by pool, than the cluster
+        itself says."""
         self.doubt = self.doubt or doubt_by_usage(self, usages)
 
     def is_affine(self, pool):
-        """Returns whether a pool may have groups on devices with a primary affinity other than 1."""
+        """Returns whether a pool may have groups on devices with a primary affinity other than
+        1."""
         return pool in self.affine
 
     def led_moves(self, pool, moves):
-        """Returns moves as they are by primary affinity, by which the order of a list may be another."""
+        """Returns moves as they are by primary affinity, by which the order of a list may be
+        another."""
         own, affinity = self.pools[pool], self.exceptions.affinity
         found = {group: tuple(led(own, group, it, affinity)[0] for it in both) for group, both in moves.items()}
         return {group: (old, new) for group, (old, new) in found.items() if old != new}
 
     def run(self, pools=None, pairs=None, exceptions=None, maps=None):
-        """Begins a run on some of the pools, with the cluster's map, upmap items and other exceptions, or others."""
+        """Begins a run on some of the pools, with the cluster's map, upmap items and other
+        exceptions, or others."""
         return Run(self, self.pools if pools is None else pools, self.pairs if pairs is None else pairs, exceptions or self.exceptions, maps or [self.texts])
 
     def side_by_side(self, *works):

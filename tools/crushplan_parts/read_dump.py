@@ -82,7 +82,8 @@ def step_of(node, buckets):
 
 
 def weight_sets_of(whole):
-    """Returns the weight sets: by the id of a pool, or -1 for all pools that have none of their own."""
+    """Returns the weight sets: by the id of a pool, or -1 for all pools that have none of their
+    own."""
     if not whole.has("choose_args"):
         return {}
     sets, found = whole.at("choose_args"), {}

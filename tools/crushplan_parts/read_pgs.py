@@ -1,4 +1,5 @@
-"""pgs.json: where the cluster itself says that groups lie, as `ceph pg dump pgs_brief -f json` writes it."""
+"""pgs.json: where the cluster itself says that groups lie, as `ceph pg dump pgs_brief -f json`
+writes it."""
 import json
 
 from .faults import Fault
@@ -42,5 +43,6 @@ def listed(items):
 
 
 def is_said(said):
-    """Returns whether the cluster says where a group lies: of one that is stale or just made it doesn't."""
+    """Returns whether the cluster says where a group lies: of one that is stale or just made it
+    doesn't."""
     return said is not None and (said.up or said.state not in ("unknown", "creating")) and "stale" not in said.state

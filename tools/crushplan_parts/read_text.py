@@ -90,7 +90,8 @@ def read_text(text, file):
 
 
 def take_classes(map_, shadows):
-    """Makes the trees of single classes, which a text has by the ids of their buckets alone, and has rules take them."""
+    """Makes the trees of single classes, which a text has by the ids of their buckets alone, and
+    has rules take them."""
     if not set(shadows.values()) & map_.buckets.keys():
         rows = {key: dict(it.rows) for key, it in map_.weight_sets.items()}
         rebuilt(map_, shadows)
@@ -211,7 +212,8 @@ def read_step(words, ids):
 
 
 def read_weight_set(words, map_):
-    """Reads the rows of a weight set: of each bucket its weights for each position, and other ids."""
+    """Reads the rows of a weight set: of each bucket its weights for each position, and other
+    ids."""
     key, own = (ALL if words.peek() == UNSIGNED_ALL else words.number()), WeightSet({})
     if key == ALL and words.peek() != "{":
         words.next()

@@ -14,8 +14,8 @@ NO_ROOM = "how full devices get isn't looked at (that takes df.json, osd-df.json
 
 
 class Stay:
-    """Copies that devices keep though they are out, since a rule takes them by name; and the pools that have to do with
-    the devices and aren't computed."""
+    """Copies that devices keep though they are out, since a rule takes them by name; and the pools
+    that have to do with the devices and aren't computed."""
 
     def __init__(self, plan, start, devices, changes):
         self.keeping = {}
@@ -67,7 +67,8 @@ def near_full(summary):
 
 
 def verdict(summary, stay, status, stopped=0, stretched=()):
-    """Returns the answer in one sentence. `stretched` are pools of which it isn't known what stops."""
+    """Returns the answer in one sentence. `stretched` are pools of which it isn't known what
+    stops."""
     moved = f"{counted(len(summary.moves), 'group')} {'moves' if len(summary.moves) == 1 else 'move'}" if summary.moves else "no group moves"
     if status == 2:
         why = ([f"{stay.unknown_text()} can't be computed"] if stay.is_unknown() else []) + ([summary.room_gap()] if summary.room_gap() else [])

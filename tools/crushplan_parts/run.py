@@ -28,16 +28,16 @@ class Asked:
 
 
 class Counting:
-    """The usage of a pool that was asked for: the place of the request, and the groups that it counts otherwise than they
-    lie, as it counts them and as they lie."""
+    """The usage of a pool that was asked for: the place of the request, and the groups that it
+    counts otherwise than they lie, as it counts them and as they lie."""
 
     def __init__(self, pool, place):
         self.pool, self.place, self.plain, self.own = pool, place, None, None
 
 
 class Run:
-    """A run on some of the pools, with upmap items and other exceptions. `maps` are the texts of the maps that it
-    imports, of which the first are there from its beginning."""
+    """A run on some of the pools, with upmap items and other exceptions. `maps` are the texts of
+    the maps that it imports, of which the first are there from its beginning."""
 
     def __init__(self, plan, pools, pairs, exceptions, maps):
         self.plan, self.pools, self.pairs, self.exceptions = plan, list(pools), pairs, exceptions
@@ -108,7 +108,8 @@ class Run:
         return asked
 
     def usage(self, pool):
-        """Asks how much lies on each device, and where the groups lie that a request for this counts otherwise."""
+        """Asks how much lies on each device, and where the groups lie that a request for this
+        counts otherwise."""
         found = Counting(pool, self.add(pool, get(f"/pools/{pool}/usage")))
         others = self.exceptions.of(pool)
         if self.plan.is_affine(pool):

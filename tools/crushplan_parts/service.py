@@ -1,5 +1,5 @@
-"""crushcalc as a service: its script beside this program, or a server (server.py). Each run has a tenant of its own,
-which is gone at its end."""
+"""crushcalc as a service: its script beside this program, or a server (server.py). Each run has a
+tenant of its own, which is gone at its end."""
 import json
 import os
 import pathlib

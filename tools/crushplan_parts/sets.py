@@ -1,5 +1,5 @@
-"""Weight sets (choose_args): weights by which pools are placed in the place of those of the map. Ceph's balancer makes
-them in its mode crush-compat."""
+"""Weight sets (choose_args): weights by which pools are placed in the place of those of the map.
+Ceph's balancer makes them in its mode crush-compat."""
 import struct
 
 from .crush_map import ONE
@@ -19,8 +19,8 @@ def name_of(key):
 
 
 def own_rows(map_, key, buckets):
-    """Yields the straw2 buckets among some that a set has a row for, with its positions: other kinds pick by the map's
-    own weights."""
+    """Yields the straw2 buckets among some that a set has a row for, with its positions: other
+    kinds pick by the map's own weights."""
     rows = map_.weight_sets[key].rows if key is not None else {}
     for it in buckets:
         if it in rows and map_.buckets[it].alg == "straw2":
@@ -56,7 +56,8 @@ def as_float(weight):
 
 
 def sharpen(map_, own):
-    """Finds the weights of 256 and more, which a dump rounds: a bucket weighs what its own row has together."""
+    """Finds the weights of 256 and more, which a dump rounds: a bucket weighs what its own row has
+    together."""
     rows = {id_: it[0] for id_, it in own.rows.items() if len(it) == 1}
 
     def total(item):

@@ -1,5 +1,5 @@
-"""What Ceph makes of a rule's list: whole upmap lists, upmap items and set primaries (OSDMap::_apply_upmap), and the
-primary by primary affinity (OSDMap::_apply_primary_affinity)."""
+"""What Ceph makes of a rule's list: whole upmap lists, upmap items and set primaries
+(OSDMap::_apply_upmap), and the primary by primary affinity (OSDMap::_apply_primary_affinity)."""
 import collections
 
 from .crush_map import ONE
@@ -37,7 +37,8 @@ def first_of(up):
 
 
 def led(pool, group, up, affinity):
-    """Returns an up list and its primary by the affinity of devices, which in a replicated pool comes first."""
+    """Returns an up list and its primary by the affinity of devices, which in a replicated pool
+    comes first."""
     if all(affinity.get(it, ONE) == ONE for it in up if it is not None):
         return up, first_of(up)
     seed, found = seed_of(pool, group), None
@@ -65,7 +66,8 @@ def excepted(items, pairs, may_be):
 
 
 class Exceptions:
-    """What groups have beside upmap items: whole lists, by pool and group, set primaries, and affinities by device."""
+    """What groups have beside upmap items: whole lists, by pool and group, set primaries, and
+    affinities by device."""
 
     def __init__(self, lists, primaries, affinity):
         self.lists, self.primaries, self.affinity = lists, primaries, affinity
@@ -78,7 +80,8 @@ class Exceptions:
         return Exceptions(lists, self.primaries, self.affinity)
 
     def with_primaries(self, changed):
-        """Returns the same with other primaries of some groups, by pool and group; None takes one away."""
+        """Returns the same with other primaries of some groups, by pool and group; None takes one
+        away."""
         found = {pool: dict(own) for pool, own in self.primaries.items()}
         for (pool, group), device in changed.items():
             found.setdefault(pool, {}).pop(group, None)
@@ -87,7 +90,8 @@ class Exceptions:
         return Exceptions(self.lists, found, self.affinity)
 
     def items_of(self, pool, group, raw, pairs, may_be):
-        """Returns a rule's list once the list, the pairs and the primary of its group have acted."""
+        """Returns a rule's list once the list, the pairs and the primary of its group have
+        acted."""
         whole = self.lists.get(pool.id, {}).get(group)
         if whole is not None:
             if any(it is not None and not may_be(it) for it in whole):
@@ -100,7 +104,8 @@ class Exceptions:
         return items
 
     def settled(self, pool, group, said, pairs, states):
-        """Returns where a group lies of which the service says a rule's list, and the one that upmap items leave of it."""
+        """Returns where a group lies of which the service says a rule's list, and the one that
+        upmap items leave of it."""
         raw, up = said["raw"], said["up"]
         if group in self.lists.get(pool.id, ()) or group in self.primaries.get(pool.id, ()):
             items = self.items_of(pool, group, raw, pairs, lambda it: states(it).reweight > 0)

@@ -4,8 +4,8 @@ from .crush_map import Bucket
 
 
 def rebuilt(map_, shadows):
-    """Makes the buckets of single classes anew, with the ids that `shadows` has by bucket and class. Rows of weight
-    sets go with them."""
+    """Makes the buckets of single classes anew, with the ids that `shadows` has by bucket and
+    class. Rows of weight sets go with them."""
     sums = {key: {} for key in map_.weight_sets}  # what a copied bucket weighs in a set
     for id_ in shadows.values():
         map_.buckets.pop(id_, None)
@@ -40,7 +40,8 @@ def copy(map_, shadows, bucket, class_, sums, done):
 
 
 def copy_row(own, bucket, id_, items, places, sums):
-    """Gives the copy of a bucket its row of a weight set: a copied bucket without a row weighs nothing in it."""
+    """Gives the copy of a bucket its row of a weight set: a copied bucket without a row weighs
+    nothing in it."""
     own.rows.pop(id_, None)
     if own.rows.get(bucket):
         row = own.rows[bucket]

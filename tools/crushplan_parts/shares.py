@@ -22,7 +22,8 @@ class Shares:
         self.factors = [(places * (product // total), parts) for places, parts, total in left]
 
     def without(self, devices):
-        """Returns the shares once some devices are down or out: the others keep what they have beside each other."""
+        """Returns the shares once some devices are down or out: the others keep what they have
+        beside each other."""
         found = Shares.__new__(Shares)
         found.take(self.blocks, self.gone | set(devices))
         return found

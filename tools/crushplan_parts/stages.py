@@ -5,12 +5,12 @@ from .upmap_rules import Keeper
 
 
 class Stages:
-    """A cluster on its way. `pools` are ids; `pairs`, `lists` and `changed`, the states of devices, are what holds by
-    now, and `texts` those of the maps that it had so far, beside its own."""
+    """A cluster on its way. `pools` are ids; `pairs`, `lists` and `changed`, the states of devices,
+    are what holds by now, and `texts` those of the maps that it had so far, beside its own."""
 
     def __init__(self, plan, pools, before=None, texts=(), first=None):
-        """Takes the stages that came before, or None, and the texts of maps that are there beside the cluster's own; or
-        `first`, those of the map that is there in its place."""
+        """Takes the stages that came before, or None, and the texts of maps that are there beside
+        the cluster's own; or `first`, those of the map that is there in its place."""
         self.plan, self.pools = plan, sorted(pools)
         pairs, lists = ((before.pairs, before.lists) if before else ({}, {}))
         self.pairs = {it: dict(pairs.get(it, plan.pairs[it])) for it in self.pools}
@@ -22,7 +22,8 @@ class Stages:
         return self.plan.exceptions.with_lists({it: dict(own) for it, own in self.lists.items()})
 
     def begun(self, pools=None, later=()):
-        """Returns a run on the cluster as it is by now, for some of the pools; `later` are the texts of the next map."""
+        """Returns a run on the cluster as it is by now, for some of the pools; `later` are the
+        texts of the next map."""
         pairs = {it: dict(own) for it, own in self.pairs.items()}
         maps = [self.first, *self.texts, *later]
         run = self.plan.run(self.pools if pools is None else pools, pairs, self.exceptions(), maps)
@@ -37,8 +38,8 @@ class Stages:
         return Keeper(self.map, lambda device: self.changed.get(device) or (self.plan.state(device) if device in self.plan.known else State()))
 
     def remove_pairs(self, pool, raws):
-        """Takes away the pairs and lists that the monitors don't keep; `raws` are raw lists by group. Returns
-        the groups of which others hold now."""
+        """Takes away the pairs and lists that the monitors don't keep; `raws` are raw lists by
+        group. Returns the groups of which others hold now."""
         keeper, own, lists, found = self.keeper(), self.pairs[pool], self.lists[pool], []
         for group, raw in raws.items():
             if group in own or group in lists:
@@ -81,14 +82,16 @@ class Stages:
         return found
 
     def settle(self, placements):
-        """Has the monitors remove what they don't keep where groups lie so, by pool, and asks for these groups again."""
+        """Has the monitors remove what they don't keep where groups lie so, by pool, and asks for
+        these groups again."""
         dirty = {pool: self.remove_pairs(pool, {group: it.raw for group, it in own.items()}) for pool, own in placements.items()}
         for pool, own in self.again(dirty).items():
             placements[pool].update(own)
 
     def set_map(self, map_, texts, with_usage=False):
         """Changes the map, and returns the groups that lie elsewhere then: up before and after, by
-        pool and group. `with_usage` also asks how much then lies where, and where groups with exceptions lie."""
+        pool and group. `with_usage` also asks how much then lies where, and where groups with
+        exceptions lie."""
         run = self.begun(later=[texts])
         groups = {pool: sorted(self.pairs[pool].keys() | self.plan.exceptions.of(pool)) for pool in self.pools}
         groups = {pool: own for pool, own in groups.items() if own}
@@ -117,8 +120,9 @@ class Stages:
 
 
 def in_turn(plan, pools, units):
-    """Returns what set_states() does for each of several changes, each of them of the cluster as it is: one run asks them
-    all. Of each there are its stages, the groups that are wanted by pool, and where groups lie before."""
+    """Returns what set_states() does for each of several changes, each of them of the cluster as it
+    is: one run asks them all. Of each there are its stages, the groups that are wanted by pool, and
+    where groups lie before."""
     run, asked = plan.run(pools), []
     for stages, groups, _ in units:
         own = []

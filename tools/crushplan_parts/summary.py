@@ -114,8 +114,8 @@ class Summary:
     """A change of the states of devices, in all pools that are computed."""
 
     def __init__(self, plan, changes, gone, levels=None):
-        """Takes the changes by pool, and the devices that are down or out afterwards. By `levels` it has the devices alone
-        that change, and not what is expected of them before."""
+        """Takes the changes by pool, and the devices that are down or out afterwards. By `levels`
+        it has the devices alone that change, and not what is expected of them before."""
         self.plan, self.changes = plan, changes
         self.moves = [it for change in changes for it in change.moves]
         self.copies = sum(it.copies for it in changes)
@@ -220,7 +220,8 @@ def shares_of(plan, pool):
 
 
 class Bytes:
-    """Bytes of copies of several pools, over one measure, so that sums of them are sums of whole numbers."""
+    """Bytes of copies of several pools, over one measure, so that sums of them are sums of whole
+    numbers."""
 
     def __init__(self, changes):
         self.changes = changes
@@ -235,7 +236,8 @@ class Bytes:
 
 
 class Levels:
-    """How full devices are before anything changes, the fullest first; none where the files don't say it."""
+    """How full devices are before anything changes, the fullest first; none where the files don't
+    say it."""
 
     def __init__(self, plan):
         rooms, known = plan.cluster.rooms, bool(plan.pools) and all(it.bytes is not None for it in plan.pools.values())
@@ -255,8 +257,8 @@ class Levels:
 
 
 def devices_of(plan, changes, gone=(), with_before=True, levels=None):
-    """Returns each placed device with how full it is before and after; `gone` are down or out afterwards. By `levels` the
-    devices alone that change, and of the others the fullest."""
+    """Returns each placed device with how full it is before and after; `gone` are down or out
+    afterwards. By `levels` the devices alone that change, and of the others the fullest."""
     placed = plan.placed()
     if levels is not None and levels.order:
         changed = {it for change in changes for it in change.gains}

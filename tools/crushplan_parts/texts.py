@@ -1,5 +1,6 @@
-"""The texts of a map for crushcalc: one for all pools where that can be, else one for each weight set in use, and where
-a map has more buckets than a text may have, one for the trees of some rules."""
+"""The texts of a map for crushcalc: one for all pools where that can be, else one for each weight
+set in use, and where a map has more buckets than a text may have, one for the trees of some
+rules."""
 from .faults import counted
 from .sets import key_of, rows_of
 from .write_text import Text
@@ -33,8 +34,8 @@ class Shelf:
 
 
 class Texts:
-    """The texts of a map. `of` has the text of each pool by id. `known` are the devices that pools name by exceptions,
-    and that have states."""
+    """The texts of a map. `of` has the text of each pool by id. `known` are the devices that pools
+    name by exceptions, and that have states."""
 
     def __init__(self, map_, pools, known):
         self.map, self.of = map_, {}

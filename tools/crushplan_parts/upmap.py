@@ -19,7 +19,8 @@ PAIRS, NO_PAIRS, PRIMARY, NO_PRIMARY = "pg-upmap-items", "rm-pg-upmap-items", "p
 
 
 class Commands:
-    """What a list sets: of each pool and group its pairs, and its primary or None; the line of the last command of each."""
+    """What a list sets: of each pool and group its pairs, and its primary or None; the line of the
+    last command of each."""
 
     def __init__(self):
         self.pairs, self.primaries, self.where = {}, {}, {}
@@ -44,8 +45,8 @@ class Commands:
 
 
 def read_commands(path):
-    """Reads the lines `ceph osd pg-upmap-items GROUP FROM TO ..`, `pg-upmap-primary GROUP DEVICE`, and those with rm- that
-    take them away, of a file, or of standard input by '-'."""
+    """Reads the lines `ceph osd pg-upmap-items GROUP FROM TO ..`, `pg-upmap-primary GROUP DEVICE`,
+    and those with rm- that take them away, of a file, or of standard input by '-'."""
     text, name = (sys.stdin.read(), "standard input") if path == "-" else (text_of(pathlib.Path(path)), path)
     found = Commands()
     for number, line in enumerate(text.splitlines(), 1):
@@ -72,8 +73,8 @@ def pairs_in(words, where):
 
 
 def checked(plan, commands):
-    """Returns the groups of the commands, by pool, of computed pools; the others are noted. A Fault names the line of a
-    pool, a group or a device that isn't there."""
+    """Returns the groups of the commands, by pool, of computed pools; the others are noted. A Fault
+    names the line of a pool, a group or a device that isn't there."""
     found, left_out = {}, {}
     for key, where in commands.where.items():
         pool, group = key

@@ -29,7 +29,8 @@ class Keeper:
         return self.states(device).reweight > 0
 
     def kept(self, pool, raw, pairs, whole=None):
-        """Returns the pairs of a group that stay, where CRUSH gives it a raw list, and its whole list or None."""
+        """Returns the pairs of a group that stay, where CRUSH gives it a raw list, and its whole
+        list or None."""
         items = list(raw) if whole is None or self.is_idle(whole) else list(whole)
         if whole is None or not self.is_idle(whole):
             items, _ = pair_remarks(items, pairs, self.may_be)
@@ -42,8 +43,8 @@ class Keeper:
         return any(it is not None and not self.may_be(it) for it in whole)
 
     def kept_at_last(self, pool, raw, pairs, whole=None):
-        """Returns the pairs and the whole list that stay once nothing more is removed: each removal is a change of
-        the map, at which they are looked at again."""
+        """Returns the pairs and the whole list that stay once nothing more is removed: each removal
+        is a change of the map, at which they are looked at again."""
         while True:
             found, left = self.kept(pool, raw, pairs, whole)
             if found == list(pairs) and left == whole:

@@ -32,9 +32,9 @@ class Names:
 
 
 class Text:
-    """The text of a map, its lines, and what is declared from each line on. It declares the devices of the map and some
-    more, or where `rows` are given, those alone that are given; `rows` are weights of buckets' items in the place of
-    the map's."""
+    """The text of a map, its lines, and what is declared from each line on. It declares the devices
+    of the map and some more, or where `rows` are given, those alone that are given; `rows` are
+    weights of buckets' items in the place of the map's."""
 
     def __init__(self, map_, buckets, rules, devices=(), with_classes=False, rows=None):
         self.map, self.lines, self.declared = map_, [], []
