@@ -239,7 +239,9 @@ def fail(step, said):
     if len(names) == 1:
         told = [row[it] for it in ("below_min_size", "short_down", "short_groups", "moved")]
         yield "its line among those of each rack", same(told, [len(stopped), len(short), len(without), len(moved_between(step.before, out))])
-    yield "where groups lie once they are back", same(set(), moved_between(step.before, back))
+    # Ceph forgets upmap items of devices that are out
+    with_items = {it["pgid"] for it in json.loads((step.folder / "osd.json").read_text())["pg_upmap_items"]}
+    yield "where groups without upmap items lie once they are back", same(set(), moved_between(step.before, back) - with_items)
 
 
 def upmap(step, said):
@@ -261,7 +263,7 @@ def compare(step, said):
 def weight(step, said):
     """Compares a device of the CRUSH weight 0, then ended, then removed from the map."""
     weighed, ended, purged = step.stages
-    for what, own, old, new in (("the weight 0 moves", said["weight_first"], step.before, weighed), ("purge then moves", said["then_purge"], ended, purged)):
+    for what, own, old, new in (("the weight 0 moves", said["weight_first"], step.before, weighed), ("purge then moves", said["weight_first"]["then_purge"], ended, purged)):
         moved = {it: (old[it]["up"], new[it]["up"]) for it in moved_between(old, new)}
         yield f"{len(moved)} groups that {what}", same({it["id"]: (it["before"], it["after"]) for it in own["groups"]}, moved)
         yield f"copies that {what.split(' moves')[0]} writes", same((own["moved"], own["copies"]), moved_and_copies(step, old, new))

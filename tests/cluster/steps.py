@@ -281,8 +281,7 @@ class OwnStory(Story):
         return self.compared("reweight", said, lambda: self.cluster.told("osd crush reweight", name=f"osd.{device}", weight=weight / ONE), dump)
 
     def compared(self, name, said, does, dump=None):
-        """Does a change of the map; without a dump of the new one, that is known when it is
-        done."""
+        """Does a change of the map; without a dump of the new one that is known when it is done."""
         folder = self.step(name, ["compare", "FOLDER/new.json", "--groups"], (said, does), files={"new.json": dump} if dump else {})
         if not dump:
             (folder / "new.json").write_text(self.dumped())
