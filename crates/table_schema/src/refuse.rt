@@ -22,15 +22,15 @@ pub fn fault_of(error: Error) -> StoreFault
 
 /// Returns the fault of `error` where the connection is still open, and else `StoreFault::Failed`.
 ///
-/// The statement was prepared when the tables were opened, so that it is there where memory is
-/// short.
+/// The statement has no token. Preparing it takes no memory where the connection has kept its plan,
+/// as it does from the opening of the tables on.
 pub fn refusal<S: Alter>(conn: &mut Connection<S>, error: Error) -> StoreFault
     ensures open { HasCleanDisk (state S.Store conn.new) → result ≢ StoreFault.Failed → IsUnchanged (state S.Store conn.old) (state S.Store conn.new) }
     ensures rows { result ≢ StoreFault.Damaged }
     ensures survives { Survives (state S.Store conn.old) (state S.Store conn.new) (λ _. ⊥) }
     ensures ended { conn.old.in_transaction ≡ false → conn.new.in_transaction ≡ false }
 {
-    match conn.prepare("SELECT 1") {
+    match conn.prepare("") {
         Ok(_) => fault_of(error),
         Err(_) => StoreFault::Failed,
     }
