@@ -11,6 +11,8 @@ import threading
 
 HERE = pathlib.Path(__file__).resolve().parent
 MOST, JOBS = 10_000_000, os.cpu_count() or 1
+# how many allocations are refused in a row: all that follow
+ALL = 0
 
 # how a run ends where an allocation was refused before the first line: status and standard error
 EARLY = (1, b"crushcalc: no memory\n")
@@ -41,16 +43,19 @@ def compiled(name):
     return top, library
 
 
-def refusing(allocation, mark):
-    """The folder and the environment of a run with this allocation refused, if it comes to it: a
-    zero byte then goes to the file descriptor `mark`."""
+def refusing(allocation, mark, many=1):
+    """The folder and the environment of a run with this allocation refused, if it comes to it, and
+    with `many` in a row from there on (ALL: all that follow). At the first a zero byte goes to the
+    file descriptor `mark`."""
     top, library = compiled("refuse")
-    return {"cwd": top, "env": {**os.environ, "LD_PRELOAD": library, "REFUSE_AT": str(allocation), "REFUSE_FD": str(mark)}}
+    asked = {"LD_PRELOAD": library, "REFUSE_AT": str(allocation), "REFUSE_MANY": str(many), "REFUSE_FD": str(mark)}
+    return {"cwd": top, "env": {**os.environ, **asked}}
 
 
-def refused_run(command, allocation, mark, seconds, stdin=None):
-    """Runs a command with this allocation refused."""
-    return subprocess.run(command, stdin=stdin, stdout=subprocess.PIPE, stderr=subprocess.PIPE, timeout=seconds, **refusing(allocation, mark))
+def refused_run(command, allocation, mark, seconds, stdin=None, many=1):
+    """Runs a command with this allocation refused, and so many in a row."""
+    refused = refusing(allocation, mark, many)
+    return subprocess.run(command, stdin=stdin, stdout=subprocess.PIPE, stderr=subprocess.PIPE, timeout=seconds, **refused)
 
 
 def allocations_of(run):
