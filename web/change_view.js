@@ -25,12 +25,13 @@ function sum(list, of) {
 }
 
 // What is added over all pools, and what each device is expected to have before and after.
-export function totals(cluster, found, { before, after, map = cluster.map }) {
+// `only` are the devices of which it is said how full they get, where it isn't all.
+export function totals(cluster, found, { before, after, map = cluster.map, only = null }) {
     const pools = found.map((it) => it.pool), copies = (key) => (pool) => sum([...found.find((it) => it.pool === pool)[key]], (it) => it);
     return {
         moved: sum(found, (it) => it.moved), anew: sum(found, (it) => it.anew), short: sum(found, (it) => it.lacks.groups), missing: sum(found, (it) => it.lacks.copies), stopped: sum(found, (it) => it.lacks.stopped),
         shortBefore: sum(found, (it) => it.lackedBefore.groups), missingBefore: sum(found, (it) => it.lackedBefore.copies), had: added(found, "had"), has: added(found, "has"), gains: added(found, "gains"), losses: added(found, "losses"),
-        expectedBefore: expectedOf(cluster.map, pools, before, copies("had")), expectedAfter: expectedOf(map, pools, after, copies("has")), rooms: roomsOf(cluster, found),
+        expectedBefore: expectedOf(cluster.map, pools, before, copies("had")), expectedAfter: expectedOf(map, pools, after, copies("has")), rooms: roomsOf(cluster, found, only),
     };
 }
 
@@ -43,13 +44,15 @@ export function fullest(cluster, all) {
 }
 
 // The answer in a row of large numbers: groups that get fewer copies, groups that move, copies that
-// are written anew, and the fullest device.
-export function answerRow(cluster, all) {
+// are written anew, `more`, and the fullest device.
+export function answerRow(cluster, all, more = []) {
+    const whose = all.rooms.only ? "the fullest of the devices whose weight stays" : "the fullest device afterwards";
     const top = fullest(cluster, all), { rooms } = all, near = cluster.known.ratios.nearfull_ratio, past = rooms.past("nearfull_ratio").length;
     return figures([
         [all.short, `${all.short === 1 ? "group has" : "groups have"} fewer copies than the pool's size afterwards${all.shortBefore ? `, and ${count(all.shortBefore)} now` : ""}`, all.short ? "bad" : "good", "short"],
         [all.moved, `${all.moved === 1 ? "group moves" : "groups move"}`, "", "moved"], [all.anew, `${all.anew === 1 ? "copy is" : "copies are"} written anew${rooms.wrote === null ? "" : `, ${sized(rooms.wrote)}`}`, "", "anew"],
-        top !== null && [percentText(all.has(top), all.expectedAfter.get(top)), `of its share has ${cluster.name(top)}, the fullest device afterwards`, "", "fullest"],
+        ...more,
+        top !== null && [percentText(all.has(top), all.expectedAfter.get(top)), `of its share has ${cluster.name(top)}, ${whose}`, "", "fullest"],
         top !== null && rooms.usedAfter(top) !== null && [hundredths(rooms.usedAfter(top)), `of its room is used then${near === undefined ? "" : `; near-full is ${hundredths(near)}`}${past > 1 ? `, and ${count(past)} devices get past it` : ""}`, past ? "bad" : "", "room"],
     ], "answer");
 }
@@ -95,11 +98,14 @@ export function beside(all, more = []) {
     return lines.length ? el("ul", { class: "hint", id: "beside" }, lines.map((it) => el("li", {}, `${it[0].toUpperCase()}${it.slice(1)}.`))) : null;
 }
 
-// One line for each pool, where there are several.
-export function poolLines(found) {
+// One line for each pool, where there are several. `more` are further columns: their heads, and what
+// they say of a part of the answer.
+export function poolLines(found, more = []) {
     if (found.length < 2) return null;
-    const head = ["pool", "fewer copies than its size", "copies without a device", "groups that move", "copies written anew"];
-    const row = ({ pool, lacks, moved, anew }) => el("tr", { "data-pool": pool.id }, el("th", { scope: "row", class: "place" }, pool.name), [lacks.groups, lacks.copies, moved, anew].map((it, at) => el("td", { class: `number ${at < 2 && it ? "bad" : ""}` }, count(it))));
+    const head = ["pool", "fewer copies than its size", "copies without a device", "groups that move", "copies written anew", ...more.map(([it]) => it)];
+    const cells = ({ lacks, moved, anew }) => [lacks.groups, lacks.copies, moved, anew].map((it, at) => el("td", { class: `number ${at < 2 && it ? "bad" : ""}` }, count(it)));
+    const others = (part) => more.map(([, of]) => el("td", { class: "number" }, of(part)));
+    const row = (part) => el("tr", { "data-pool": part.pool.id }, el("th", { scope: "row", class: "place" }, part.pool.name), cells(part), others(part));
     return el("div", { class: "card scroll", id: "by-pool", tabindex: "0", role: "region", "aria-label": "By pool" }, el("table", { "aria-label": "By pool" }, el("thead", {}, el("tr", {}, head.map((it, at) => el("th", { scope: "col", class: at ? "number" : "place" }, it)))), el("tbody", {}, found.map(row))));
 }
 

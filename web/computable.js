@@ -68,3 +68,9 @@ export function isComputed(map, id, known) {
     }
     return known.get(id);
 }
+
+// Whether all of a map can be computed.
+export function fits(map) {
+    const known = new Map();
+    return !map.holes && [...map.rules.values()].every((it) => !ruleFault(map, it)) && [...map.buckets.keys()].every((it) => isComputed(map, it, known));
+}

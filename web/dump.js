@@ -1,13 +1,14 @@
 // What a cluster itself writes: the map of `ceph osd crush dump -f json`; pools, states and
 // exceptions of `ceph osd dump -f json`; and by `ceph df` and `ceph osd df` how full it is. What
 // isn't as Ceph writes it is said with its field.
+import { dropGone, markHoles } from "./holes.js";
 import { sharpen } from "./sets.js";
 
 const KINDS = { 1: "replicated", 3: "erasure" }, MSR_KINDS = { 4: "replicated", 5: "erasure" }, ONE = 65536, RJENKINS = 2;
-const MSR = "it is an MSR rule (choosemsr, of release 19), which isn't computed: a rule of chooseleaf steps is";
+export const MSR = "it is an MSR rule (choosemsr, of release 19), which isn't computed: a rule of chooseleaf steps is";
 // an item that is none, in Ceph's lists
 export const NONE = 2147483647;
-const TUNABLES = ["choose_local_tries", "choose_local_fallback_tries", "choose_total_tries", "chooseleaf_descend_once", "chooseleaf_vary_r", "chooseleaf_stable"];
+export const TUNABLES = ["choose_local_tries", "choose_local_fallback_tries", "choose_total_tries", "chooseleaf_descend_once", "chooseleaf_vary_r", "chooseleaf_stable"];
 const SET_STEPS = new Set(["set_choose_tries", "set_chooseleaf_tries", "set_choose_local_tries", "set_choose_local_fallback_tries", "set_chooseleaf_vary_r", "set_chooseleaf_stable"]);
 // steps that release 16 writes by their numbers
 const OPCODES = { 12: "set_chooseleaf_vary_r", 13: "set_chooseleaf_stable" };
@@ -138,27 +139,6 @@ function weightsOf(row, where) {
         if (!(Number.isFinite(it) && it >= 0)) throw new Fault(`${where}[${place}] isn't a number of 0 and more`);
         return Math.round(it * ONE);
     });
-}
-
-// Makes holes of the items that a removal left in tree buckets: a dump shows them as the device 0
-// with the weight 0. Where that may be the device 0 itself, the first one is; a tree bucket never
-// picks a weight of 0, so which it is changes no placement. `zero` is whether there is a device 0.
-function markHoles({ buckets, devices }, zero) {
-    for (const bucket of buckets.values()) {
-        const places = bucket.alg === "tree" ? bucket.items.filter((it) => it.id === 0 && it.weight === 0) : [];
-        if (!places.length) continue;
-        const weighed = [...buckets.values()].some((it) => (it === bucket || !it.shadow) && it.items.some((one) => one.id === 0 && one.weight > 0));
-        const itself = zero && !weighed && !bucket.items.some((it) => it.id < 0) && devices.has(0) && devices.get(0) !== "device0";
-        for (const it of places.slice(itself ? 1 : 0)) it.id = null;
-    }
-}
-
-// Takes away what is in no bucket and no device: Ceph writes the ids that were never used too, as
-// device7, and keeps the name osd.0 for holes. What a rule takes by name stays.
-function dropGone({ buckets, devices, rules }, there) {
-    const placed = new Set([...buckets.values()].flatMap((it) => it.items.map((one) => one.id)));
-    for (const it of rules.values()) for (const [op, item] of it.steps) if (op === "take") placed.add(item);
-    for (const [id, name] of devices) if (!placed.has(id) && (name === `device${id}` || there?.(id) === false)) devices.delete(id);
 }
 
 // ---- pools, states, upmap items

@@ -6,12 +6,13 @@
 // takes (`pairs`); primary affinities by device (`affinity`); what pools take and devices hold in
 // bytes (`bytes`, `rooms`, `ratios`); flags that keep devices in (`noout`, by devices, and
 // `flags`); pools in stretch mode (`stretched`), that are being split (`splits`), and groups with a
-// temporary list (`moving`); how groups lie by the cluster's own word (`lying`, `doubt`). A map may
-// have several `texts`, of which the first ones (`shown`) show it; `sides` says of pools which one
-// they have, if not the first.
+// temporary list (`moving`); how groups lie by the cluster's own word (`lying`, `doubt`); whether the
+// newest map has weights with all their decimals (`exact`). A map may have several `texts`, of
+// which the first ones (`shown`) show it; `sides` says of pools which one they have, if not the
+// first.
 
 const KNOWN = "crushcalc.tenant.";
-const EMPTY = { notes: [], left: [], whole: {}, primaries: {}, pairs: {}, affinity: {}, bytes: {}, rooms: {}, ratios: {}, noout: [], flags: [], stretched: [], moving: {}, splits: [], lying: null, doubt: null, texts: 1, shown: 1, sides: {} };
+const EMPTY = { notes: [], left: [], whole: {}, primaries: {}, pairs: {}, affinity: {}, bytes: {}, rooms: {}, ratios: {}, noout: [], flags: [], stretched: [], moving: {}, splits: [], lying: null, doubt: null, exact: false, texts: 1, shown: 1, sides: {} };
 
 // The names of what a dump says.
 export const SAID = Object.keys(EMPTY);

@@ -4,23 +4,18 @@ import { groupsOf, withCopy } from "./copies.js";
 import { NOW, listsIn, statesOn } from "./lies.js";
 import { flat, listAt } from "./lists.js";
 import { comparedPool, comparedText } from "./pgs.js";
+import { wordOf } from "./remembered.js";
 import { exceptionsOf, usageOf } from "./usage.js";
 import { count, many, some } from "./words.js";
 
 const MORE = "the view Map says more";
-// what pgs.json said of each cluster's groups, as long as the page is open
-const words = new Map();
 
 // The lists of a pool's groups by the cluster's own word, or null where it is silent of one.
 export function listsSaid(tenant, pool) {
-    const said = words.get(tenant)?.find((it) => it.pool === pool.id), places = new Map(Array.from(said?.groups ?? [], (group, at) => [group, at]));
+    const said = wordOf(tenant)?.find((it) => it.pool === pool.id), places = new Map(Array.from(said?.groups ?? [], (group, at) => [group, at]));
     const groups = Array.from({ length: pool.pg_num }, (_, group) => places.get(group));
     if (groups.some((at) => at === undefined || said.silent[at])) return null;
     return { ...flat(groups.map((at) => listAt(said, at))), primaries: Int32Array.from(groups, (at) => said.primaries[at]) };
-}
-
-export function keepWord(tenant, said) {
-    words.set(tenant, said);
 }
 
 // Why a group of a pool may lie otherwise, in words.

@@ -92,6 +92,14 @@ export async function textsOf(map, pools, more = []) {
     return { texts, places, shown };
 }
 
+// A text of a whole map, with what isn't computed too, for the page alone.
+export function wholeText(map) {
+    const whole = new Shelf(false);
+    for (const it of map.rules.values()) whole.put(it, [], []);
+    for (const it of map.buckets.keys()) whole.buckets.add(it);
+    return writerOf(map, [])(whole);
+}
+
 // Writes texts that have the same names. A hole has a device of the weight 0.
 function writerOf(map, more) {
     const items = [...map.buckets.values()].flatMap((it) => it.items), give = names(), called = new Map(), filled = new Map();

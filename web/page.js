@@ -5,9 +5,11 @@ import { button, el, fault, fresh, labelled, pause, say, sayDone } from "./dom.j
 import { forgetTenant, known, learn, note, tenants } from "./known.js";
 import { devicesBelow, readLongMap, readMap, signature } from "./map.js";
 import { LONGEST, dropLeft, leave } from "./copies.js";
-import { keepWord, lyingByDevice, lyingByGroup } from "./lying.js";
+import { lyingByDevice, lyingByGroup } from "./lying.js";
+import { keepMap, keepWord } from "./remembered.js";
 import { tenantWith, tenantsOf } from "./sides.js";
-import { Refused, crushIn, filesOf, importMap, mapIn, osdIn, takeOsd, takeRooms, takeSaved, takeStates } from "./take.js";
+import { crushIn, filesOf, mapIn, osdIn } from "./files.js";
+import { Refused, importMap, takeOsd, takeRooms, takeSaved, takeStates } from "./take.js";
 import { filesOfDrop } from "./folder.js";
 import { aboutStraw } from "./refused.js";
 import { dropBox, showMap } from "./view_map.js";
@@ -250,6 +252,7 @@ function done(tenant, text, first, later, version, before = "") {
 // The cluster's own dumps, after its map: pools, states, exceptions, bytes, and how groups lie.
 async function takeWhole(tenant, map, files, work, fresh) {
     const osd = osdIn(files), open = () => openTenant(tenant, work), taken = await takeOsd(tenant, osd, map, fresh, open, work);
+    if (map?.dump) keepMap(tenant, map.dump);
     takeRooms(tenant, files, osd);
     const lies = await takeLying(tenant, files, work);
     return done(tenant, `The cluster is there: ${taken}${lies}. `, ["drain", "choose what is drained or fails"], null, 1, "Click on a host or rack in the picture, or ");

@@ -1,81 +1,22 @@
-// Files that are dropped or chosen: a cluster's own dumps, the text of a map, a CSV of states, what
-// another browser saved. Each is read, and what it says is set on the service.
+// What files say is set on the service: a cluster's own dumps, the text of a map, a CSV of states,
+// what another browser saved.
 import { change } from "./service.js";
 import { meaning } from "./codes.js";
 import { computedPools } from "./computable.js";
 import { PAIRS, good, poolBody } from "./copies.js";
-import { Fault, RJENKINS, WRITES, isOfGroups, kindOf, readCrush, readDf, readOsd, readOsdDf } from "./dump.js";
+import { Fault, RJENKINS, readDf, readOsdDf } from "./dump.js";
 import { el, fault } from "./dom.js";
 import { SAID, known, note, statesOf as statesIn } from "./known.js";
-import { marked, textsOf } from "./map_texts.js";
 import { devicesBelow } from "./map.js";
 import { reachOf } from "./reach.js";
-import { readLong } from "./reading.js";
 import { faultOf } from "./refused.js";
 import { keyOf, rowsOf } from "./sets.js";
 import { hasSides, makeSides, noteFor, setStates, tenantWith } from "./sides.js";
 import { count, many, some } from "./words.js";
 
-const LONGEST_FILE = 16_777_216, LONGEST_BODY = 5_242_880, LONGEST_GROUPS = 268_435_456, START = 400;
+const LONGEST_BODY = 5_242_880;
 
-// The text of a file as it is, its byte order mark too.
-async function textIn(file) {
-    if (file.size > LONGEST_FILE) throw new Fault(`${file.name} isn't read: it is longer than ${many(LONGEST_FILE, "byte")}.`);
-    return new TextDecoder("utf-8", { ignoreBOM: true }).decode(await file.arrayBuffer());
-}
-
-// A dump of groups, which the worker reads.
-async function groupsIn(file) {
-    if (file.size > LONGEST_GROUPS) throw new Fault(`${file.name} isn't read: it is longer than ${many(LONGEST_GROUPS, "byte")}.`);
-    const read = await readLong("pgs", [await file.arrayBuffer()]);
-    if (!read) throw new Fault(`${file.name}: it isn't what '${WRITES.pgs}' writes.`);
-    return { name: file.name, kind: "pgs", read: read.pools };
-}
-
-async function fileIn(file) {
-    if (isOfGroups(await file.slice(0, START).text())) return groupsIn(file);
-    const text = await textIn(file), { kind = /^\ufeff?"?id"?,/.test(text) ? "states" : "text", whole } = kindOf(text);
-    if (kind === "other") throw new Fault(`${file.name} is none of what 'crushplan fetch' writes (${Object.values(WRITES).join(", ")}), and no map text.`);
-    return { name: file.name, kind, text, whole };
-}
-
-// What the files are: of each kind one. A folder that `crushplan fetch` wrote has the map twice.
-export async function filesOf(list) {
-    const found = {};
-    for (const file of list) {
-        const it = await fileIn(file);
-        if (found[it.kind]) throw new Fault(`${it.name} and ${found[it.kind].name} are of one kind: drop one of them.`);
-        found[it.kind] = it;
-    }
-    if (found.crush && found.text) delete found.text;
-    return found;
-}
-
-// What osd.json and crush.json say, where they are among the files. Each is read once. `there` says
-// whether the cluster has a device, where no osd.json does.
-export function osdIn({ osd }) {
-    if (osd) osd.read ??= readOsd(osd.whole, osd.name);
-    return osd?.read;
-}
-
-export function crushIn(files, there) {
-    const { crush } = files, osd = osdIn(files);
-    if (crush) crush.read ??= readCrush(crush.whole, crush.name, osd ? (id) => osd.states.has(id) : there);
-    return crush?.read;
-}
-
-// The map of the files: its texts for the service, the first one alone where it is no dump, and the
-// dump where it is one. `pools` are those that it is for, where no osd.json says them: of those
-// that can't be computed `left` says why.
-export async function mapIn(files, osd, there, pools = []) {
-    const dump = crushIn(files, there);
-    if (!dump) return files.text && { name: files.text.name, ...marked(files.text.text), places: {}, shown: 1, dump: null, get texts() { return [this.text]; } };
-    const { kept, left } = computedPools(osd?.pools ?? pools, (id) => dump.rules.get(id), dump.file, dump);
-    const written = await textsOf(dump, kept, osd ? [...osd.states.keys()].filter((id) => !dump.devices.has(id)) : []);
-    return { name: files.crush.name, ...written, text: written.texts[0], more: 0, dump, left };
-}
-
-// Imports a map as the next version. Gives its number, or throws what is to be shown.
+// What is to be shown of a map that isn't imported.
 export class Refused extends Error {
     constructor(shown) {
         super("refused");
@@ -83,11 +24,18 @@ export class Refused extends Error {
     }
 }
 
-// Imports a map as the next version; its other texts go to tenants of their own.
+// Whether a map has weights with all their decimals.
+export function isExact({ dump }) {
+    return Boolean(dump && !dump.rounded);
+}
+
+// Imports a map as the next version, and gives its number; its other texts go to tenants of their
+// own.
 export async function importMap(tenant, map, take) {
     const { name, text } = map;
     for (const it of map.texts) if (it.length > LONGEST_BODY) throw new Fault(`${name} isn't sent: it is longer than the 5,242,880 bytes that a request may have.`);
     const reply = await change(`Import ${name}`, tenant, "maps", { text }, { file: name });
+    if (reply.status === 201) note(tenant, { exact: isExact(map) });
     if (reply.status === 201) return reply.version;
     throw new Refused(reply.error === "map_refused" ? faultOf({ ...map, reply }, take) : fault(`${name} isn't imported. `, meaning(reply.status, reply.error)));
 }
@@ -199,7 +147,7 @@ export async function takeOsd(tenant, osd, map, fresh, open, work) {
     if (lacking.length) lines.push(`${osd.file} has devices that the map lacks; they hold nothing: ${some(lacking.map((it) => `osd.${it}`))}`);
     const missing = [...on.devices.values()].filter((it) => it.buckets.length && !osd.states.has(it.id));
     if (missing.length) lines.push(`the map has devices that ${osd.file} lacks; they count as out and down: ${some(missing.map((it) => `osd.${it.id}`))}`);
-    if (map && !dump) lines.push(`${map.name} has weights that 'crushtool -d' rounded to three decimals; crush.json ('ceph osd crush dump -f json') has exact ones`);
+    if (map && !isExact(map)) lines.push(`${map.name} has weights that 'crushtool -d' rounded to three decimals; crush.json ('ceph osd crush dump -f json') has exact ones`);
     // the tenant has the pools of the dump then, and no other
     await removeOthers(tenant, map ? before : {}, pools, work);
     // a pool that isn't computed may be on another map, where its pairs count
@@ -213,6 +161,7 @@ export async function takeOsd(tenant, osd, map, fresh, open, work) {
         if (sent.length || !fresh) good(await change(`Set the upmap items of ${pool.name}`, at, "pools/exceptions", { id: pool.id, exceptions: sent }, noteFor(tenant, at)), `The upmap items of ${pool.name}`);
         set += all.length;
     }
+    if (map) note(tenant, { exact: isExact(map) });
     note(tenant, {
         notes: lines, left, ...own, ratios: osd.ratios, stretched: pools.filter((it) => it.stretched).map((it) => it.id), splits: pools.filter((it) => it.splits).map((it) => it.id), flags: osd.flags,
         noout: osd.noout.map((name) => [name, flagged(name, on, dump)]), bytes: {}, rooms: {}, lying: null, doubt: null,

@@ -4,14 +4,19 @@ import { ask, change } from "./service.js";
 import { good, movesByWord, report, stagesOf } from "./answer.js";
 import { meaning } from "./codes.js";
 import { button, csv, el, fault, labelled, options } from "./dom.js";
+import { copiesText, hostLines, hostsOf, leastOf, steadyDevices } from "./compared.js";
 import { answerRow, beforeAfter, beside, changePicture, groupsFolded, leftOutNote, legend, poolLines, totals, verdict } from "./change_view.js";
 import { figures } from "./figures.js";
 import { count, many, some } from "./words.js";
+import { note } from "./known.js";
 import { faultOf } from "./refused.js";
 import { listsSaid } from "./lying.js";
-import { devicesIn, readMap } from "./map.js";
+import { devicesBelow, devicesIn, readMap } from "./map.js";
+import { wholeText } from "./map_texts.js";
 import { DEVICE_HEADS, deviceFields, placesTable } from "./places.js";
 import { decimals } from "./shares.js";
+import { mapOf } from "./remembered.js";
+import { isExact } from "./take.js";
 import { exceptionsOf, usagesOf } from "./usage.js";
 import { leftOut, missing, poolPicker, poolsChosen } from "./view_pools.js";
 import { filling } from "./waiting.js";
@@ -88,22 +93,44 @@ async function tried(cluster, file, refresh, work) {
     if (!found) return refusals;
     if (byWord.length) other ??= readMap(...file.texts.slice(0, file.shown));
     if (byWord.length) found.push(...await movesByWord(cluster, byWord, said, later, other, work));
-    const both = { ...cluster, map: union(cluster.map, other) }, all = totals(cluster, found, { before: states, after: states, map: other });
+    return compared(cluster, byWord.length > 0, other, file, found, lacks, refresh);
+}
+
+// What is shown of a map that was tried.
+function compared(cluster, isByWord, other, file, found, lacks, refresh) {
+    const { name } = file, { tenant, summary, known } = cluster, { states } = known, saved = `${tenant}-${name}`;
+    // of what isn't computed the service has no map
+    const first = isByWord && mapOf(tenant) ? readMap(wholeText(mapOf(tenant))) : cluster.map, now = { ...cluster, map: first };
+    const both = { ...cluster, map: union(first, other) }, all = totals(now, found, { before: states, after: states, map: other, only: steadyDevices(first, other) });
     both.name = (id) => both.map.byId.get(id)?.name ?? cluster.name(id);
-    const saved = `${cluster.tenant}-${name}`;
-    const keep = (file.texts.length > 1 || cluster.known.texts > 1) ? "Its map has several texts: drop it with osd.json to take it." : button(`Make it version ${cluster.summary.versions + 1}`, async () => {
-        const reply = await change(`Import ${name}`, cluster.tenant, "maps", { text: file.text }, { file: name });
+    const leasts = new Map(found.map((it) => [it, leastOf(it, first, other, states)])), least = [...leasts.values()].reduce((sum, it) => sum + it, 0);
+    const notes = [
+        all.rooms.looks && all.rooms.others && "how full devices get is said of those alone whose weight stays: one of another weight may be another device by then, and of a new one the files know no room",
+        !isExact(file) && known.exact && `${name} has weights with three decimals, and the newest version exact ones: what this rounding alone moves is part of the answer, as it would be in the cluster`,
+    ];
+    return [el("h2", { class: "title" }, `Version ${summary.versions} and ${name}`), tryingNote(cluster, file, refresh), verdict(both, found, all, { lacks }), leftOutNote(lacks), beside(all, notes),
+        answerRow(both, all, [[copiesText(least), "copies are the least that the change of weights asks for", "", "least"]]), poolLines(found, [["the least asked for", (it) => copiesText(leasts.get(it))]]), changePicture(both, all),
+        beforeAfter(both, all, saved), hostLines(hostsOf(found, first, other), saved), groupsFolded(both, found, ["now", `by ${name}`], saved)].flat();
+}
+
+// That a map was only tried, and how it becomes a version.
+function tryingNote(cluster, file, refresh) {
+    const { summary, tenant, known } = cluster, { name } = file;
+    const keep = (file.texts.length > 1 || known.texts > 1) ? "Its map has several texts: drop it with osd.json to take it." : button(`Make it version ${summary.versions + 1}`, async () => {
+        const reply = await change(`Import ${name}`, tenant, "maps", { text: file.text }, { file: name });
+        if (reply.status === 201) note(tenant, { exact: isExact(file) });
         if (reply.status === 201) return refresh();
         keep.after(fault(meaning(reply.status, reply.error)));
         return undefined;
     }, { id: "keep" });
-    return [el("h2", { class: "title" }, `Version ${cluster.summary.versions} and ${name}`), el("p", { class: "hint" }, `${name} was tried in a copy: the newest version is ${cluster.summary.versions} as before. `, keep),
-        verdict(both, found, all, { lacks }), leftOutNote(lacks), beside(all), answerRow(both, all), poolLines(found), changePicture(both, all), beforeAfter(both, all, saved), groupsFolded(both, found, ["now", `by ${name}`], saved)];
+    return el("p", { class: "hint" }, `${name} was tried in a copy: the newest version is ${summary.versions} as before. `, keep);
 }
 
-// The places of both maps: those of the other one, and what it lacks of the first.
+// The places of both maps: those of the other one, and what it lacks of the first. A bucket that is
+// no more has the devices that have no other place then.
 function union(first, other) {
-    const byId = new Map([...first.byId, ...other.byId]), buckets = new Map([...first.buckets, ...other.buckets]);
+    const isGone = ({ id }) => !other.byId.get(id)?.buckets.length, gone = [...first.buckets.values()].filter((it) => !other.buckets.has(it.name));
+    const byId = new Map([...first.byId, ...other.byId]), buckets = new Map([...other.buckets, ...gone.map((it) => [it.name, { ...it, below: devicesBelow(it).filter(isGone) }])]);
     return { ...other, byId, buckets, devices: new Map([...first.devices, ...other.devices]), levels: other.levels.length ? other.levels : first.levels };
 }
 
