@@ -34,7 +34,7 @@ def said_of(page, program, folder, name, words):
     """The comparison as crushplan has it, with notes that have all these words."""
     found = same_compare(page, program, folder, name)
     notes = page.browser.text("#beside") if page.browser.all("#beside") else ""
-    return first(found, *(None if it in notes else f"{it!r} isn't in {notes!r}" for it in words))
+    return first(found, *(None if it.lower() in notes.lower() else f"{it!r} isn't in {notes!r}" for it in words))
 
 
 @with_folder
