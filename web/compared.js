@@ -13,7 +13,8 @@ const ROUNDED = 33 / 65536;
 function weightsOf({ buckets }) {
     const found = new Map();
     for (const bucket of buckets.values()) {
-        for (const { device, number } of bucket.items) if (device) found.set(device.id, (found.get(device.id) ?? 0) + number);
+        for (const { device, number } of bucket.items)
+            if (device) found.set(device.id, (found.get(device.id) ?? 0) + number);
     }
     return found;
 }
@@ -22,12 +23,17 @@ function weightsOf({ buckets }) {
 // then, and of a new one the files know no room.
 export function steadyDevices(first, other) {
     const old = weightsOf(first), next = weightsOf(other);
-    return new Set([...old].filter(([id, it]) => it && next.get(id) && Math.abs(it - next.get(id)) <= ROUNDED).map(([id]) => id));
+    return new Set(
+        [...old].filter(
+            ([id, it]) => it && next.get(id) && Math.abs(it - next.get(id)) <= ROUNDED
+        ).map(([id]) => id)
+    );
 }
 
 // How many copies of a pool's part of an answer devices gain by their shares alone.
 export function leastOf({ pool, had }, first, other, states) {
-    const old = partsOf(first, pool, states), next = partsOf(other, pool, states), whole = had.reduce((sum, it) => sum + it, 0);
+    const old = partsOf(first, pool, states), next = partsOf(other, pool, states);
+    const whole = had.reduce((sum, it) => sum + it, 0);
     return whole * [...next].reduce((sum, [id, part]) => sum + Math.max(0, part - (old.get(id) ?? 0)), 0);
 }
 
@@ -62,11 +68,41 @@ export function hostsOf(found, first, other) {
 // The table of these hosts.
 export function hostLines(hosts, name) {
     if (!hosts.length) return null;
-    const body = el("tbody"), head = ["host", "copies lost", "copies gained"], title = "Copies lost and gained by host";
-    const row = ([host, both]) => el("tr", { "data-host": host }, el("th", { scope: "row", class: "place" }, host), both.map((it) => el("td", { class: "number" }, count(it))));
+    const body = el("tbody"), head = ["host", "copies lost", "copies gained"];
+    const title = "Copies lost and gained by host";
+    const row = ([host, both]) => el(
+        "tr", { "data-host": host }, el("th", { scope: "row", class: "place" }, host),
+        both.map((it) => el("td", { class: "number" }, count(it)))
+    );
     const foot = cut(body, hosts.length, (place) => row(hosts[place]));
-    const file = button("Save as CSV", () => save(`hosts-${name}.csv`, csv(["host", "lost", "gained"], hosts.map(([host, both]) => [host, ...both]))), { id: "hosts-csv" });
-    return [el("h2", {}, title), el("p", { class: "hint" }, "Lost where a device stands now, gained where it stands by the other map. ", file),
-        el("div", { class: "card scroll", id: "by-host", tabindex: "0", role: "region", "aria-label": title },
-            el("table", { "aria-label": title }, el("thead", {}, el("tr", {}, head.map((it, at) => el("th", { scope: "col", class: at ? "number" : "place" }, it)))), body)), foot];
+    const file = button(
+        "Save as CSV",
+        () => save(
+            `hosts-${name}.csv`, csv(["host", "lost", "gained"], hosts.map(([host, both]) => [host, ...both]))
+        ),
+        { id: "hosts-csv" }
+    );
+    return [
+        el("h2", {}, title),
+        el(
+            "p", { class: "hint" },
+            "Lost where a device stands now, gained where it stands by the other map. ", file
+        ),
+        el(
+            "div",
+            { class: "card scroll", id: "by-host", tabindex: "0", role: "region", "aria-label": title },
+            el(
+                "table", { "aria-label": title },
+                el(
+                    "thead", {},
+                    el(
+                        "tr", {},
+                        head.map((it, at) => el("th", { scope: "col", class: at ? "number" : "place" }, it))
+                    )
+                ),
+                body
+            )
+        ),
+        foot
+    ];
 }

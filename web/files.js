@@ -10,13 +10,15 @@ const LONGEST_FILE = 16_777_216, LONGEST_GROUPS = 268_435_456, START = 400;
 
 // The text of a file as it is, its byte order mark too.
 async function textIn(file) {
-    if (file.size > LONGEST_FILE) throw new Fault(`${file.name} isn't read: it is longer than ${many(LONGEST_FILE, "byte")}.`);
+    if (file.size > LONGEST_FILE)
+        throw new Fault(`${file.name} isn't read: it is longer than ${many(LONGEST_FILE, "byte")}.`);
     return new TextDecoder("utf-8", { ignoreBOM: true }).decode(await file.arrayBuffer());
 }
 
 // A dump of groups, which the worker reads.
 async function groupsIn(file) {
-    if (file.size > LONGEST_GROUPS) throw new Fault(`${file.name} isn't read: it is longer than ${many(LONGEST_GROUPS, "byte")}.`);
+    if (file.size > LONGEST_GROUPS)
+        throw new Fault(`${file.name} isn't read: it is longer than ${many(LONGEST_GROUPS, "byte")}.`);
     const read = await readLong("pgs", [await file.arrayBuffer()]);
     if (!read) throw new Fault(`${file.name}: it isn't what '${WRITES.pgs}' writes.`);
     return { name: file.name, kind: "pgs", read: read.pools };
@@ -24,7 +26,8 @@ async function groupsIn(file) {
 
 async function fileIn(file) {
     if (isOfGroups(await file.slice(0, START).text())) return groupsIn(file);
-    const text = await textIn(file), { kind = /^\ufeff?"?id"?,/.test(text) ? "states" : "text", whole } = kindOf(text);
+    const text = await textIn(file);
+    const { kind = /^\ufeff?"?id"?,/.test(text) ? "states" : "text", whole } = kindOf(text);
     if (kind !== "other") return { name: file.name, kind, text, whole };
     const written = Object.values(WRITES).join(", ");
     throw new Fault(`${file.name} is none of what 'crushplan fetch' writes (${written}), and no map text.`);
@@ -35,7 +38,8 @@ export async function filesOf(list) {
     const found = {};
     for (const file of list) {
         const it = await fileIn(file);
-        if (found[it.kind]) throw new Fault(`${it.name} and ${found[it.kind].name} are of one kind: drop one of them.`);
+        if (found[it.kind])
+            throw new Fault(`${it.name} and ${found[it.kind].name} are of one kind: drop one of them.`);
         found[it.kind] = it;
     }
     if (found.crush && found.text) delete found.text;
@@ -66,7 +70,8 @@ export async function mapIn(files, osd, there, pools = []) {
 
 async function written(name, dump, osd, pools) {
     const { kept, left } = computedPools(pools, (id) => dump.rules.get(id), dump.file, dump);
-    const more = osd ? [...osd.states.keys()].filter((id) => !dump.devices.has(id)) : [], found = await textsOf(dump, kept, more);
+    const more = osd ? [...osd.states.keys()].filter((id) => !dump.devices.has(id)) : [];
+    const found = await textsOf(dump, kept, more);
     return { name, ...found, text: found.texts[0], more: 0, dump, left };
 }
 
@@ -76,7 +81,8 @@ async function written(name, dump, osd, pools) {
 async function ofText({ name, text }, osd, there, pools) {
     const own = marked(text), asItIs = { ...own, texts: [own.text] };
     const read = readOrNot(text, name, there), whole = read && fits(read) && !read.weightSets.size;
-    if (!read || !pools.length && !(whole && read.takesClasses)) return { name, ...asItIs, places: {}, shown: 1, dump: null };
+    if (!read || !pools.length && !(whole && read.takesClasses))
+        return { name, ...asItIs, places: {}, shown: 1, dump: null };
     const found = await written(name, read, osd, pools);
     return whole && !read.takesClasses && isOne(read) ? { ...found, ...asItIs } : found;
 }

@@ -19,7 +19,9 @@ const fileOf = (entry) => new Promise((done, failed) => { entry.file(done, faile
 // The files of a folder: those that crushplan reads, where it has any, else what can be a map.
 // Others, as hidden ones, are passed over.
 async function filesIn(folder) {
-    const all = (await entriesOf(folder)).filter((it) => it.isFile && /^[^.].*\.(json|txt|csv)$/.test(it.name));
+    const all = (await entriesOf(folder)).filter(
+        (it) => it.isFile && /^[^.].*\.(json|txt|csv)$/.test(it.name)
+    );
     const own = all.filter((it) => FETCHED.has(it.name));
     return Promise.all((own.length ? own : all).map(fileOf));
 }

@@ -7,10 +7,15 @@
 export function markHoles({ buckets, devices }, zero) {
     let found = 0;
     for (const bucket of buckets.values()) {
-        const places = bucket.alg === "tree" ? bucket.items.filter((it) => it.id === 0 && it.weight === 0) : [];
+        const places = bucket.alg === "tree"
+            ? bucket.items.filter((it) => it.id === 0 && it.weight === 0)
+            : [];
         if (!places.length) continue;
-        const weighed = [...buckets.values()].some((it) => (it === bucket || !it.shadow) && it.items.some((one) => one.id === 0 && one.weight > 0));
-        const itself = zero && !weighed && !bucket.items.some((it) => it.id < 0) && devices.has(0) && devices.get(0) !== "device0";
+        const weighed = [...buckets.values()].some(
+            (it) => (it === bucket || !it.shadow) && it.items.some((one) => one.id === 0 && one.weight > 0)
+        );
+        const itself = zero && !weighed && !bucket.items.some((it) => it.id < 0) && devices.has(0)
+            && devices.get(0) !== "device0";
         const holes = places.slice(itself ? 1 : 0);
         for (const it of holes) it.id = null;
         found += holes.length;
@@ -23,5 +28,6 @@ export function markHoles({ buckets, devices }, zero) {
 export function dropGone({ buckets, devices, rules }, there) {
     const placed = new Set([...buckets.values()].flatMap((it) => it.items.map((one) => one.id)));
     for (const it of rules.values()) for (const [op, item] of it.steps) if (op === "take") placed.add(item);
-    for (const [id, name] of devices) if (!placed.has(id) && (name === `device${id}` || there?.(id) === false)) devices.delete(id);
+    for (const [id, name] of devices)
+        if (!placed.has(id) && (name === `device${id}` || there?.(id) === false)) devices.delete(id);
 }

@@ -12,11 +12,15 @@ const ALL = "18446744073709551615";
 class Words {
     constructor(text, file) {
         const lines = text.split("\n").map((line) => line.split("#", 1)[0].match(WORD) ?? []);
-        Object.assign(this, { file, place: 0, words: lines.flat(), lines: lines.flatMap((own, at) => own.map(() => at + 1)) });
+        Object.assign(
+            this,
+            { file, place: 0, words: lines.flat(), lines: lines.flatMap((own, at) => own.map(() => at + 1)) }
+        );
     }
 
     fault(why) {
-        return new Fault(`${this.file}: line ${this.lines[Math.min(this.place, this.lines.length - 1)] ?? 1}: ${why}`);
+        return new Fault(`${this.file}: line `
+            + `${this.lines[Math.min(this.place, this.lines.length - 1)] ?? 1}: ${why}`);
     }
 
     get left() {
@@ -30,7 +34,8 @@ class Words {
     // the next word; a Fault where there is none, or it isn't the one that is wanted
     next(wanted) {
         if (!this.left) throw this.fault("the text ends too early");
-        if (wanted !== undefined && this.peek() !== wanted) throw this.fault(`'${this.peek()}' stands where '${wanted}' is wanted`);
+        if (wanted !== undefined && this.peek() !== wanted)
+            throw this.fault(`'${this.peek()}' stands where '${wanted}' is wanted`);
         this.place += 1;
         return this.words[this.place - 1];
     }
@@ -77,9 +82,13 @@ function fixed(text) {
 // has a device of an id, where that is known.
 export function readText(text, file, there) {
     const words = new Words(text.replace(/^\ufeff/, ""), file), ids = new Map(), shadows = [];
-    const map = { file, rounded: true, types: new Map(), devices: new Map(), classes: new Map(), tunables: [], buckets: new Map(), rules: new Map(), weightSets: new Map() };
+    const map = {
+        file, rounded: true, types: new Map(), devices: new Map(), classes: new Map(), tunables: [],
+        buckets: new Map(), rules: new Map(), weightSets: new Map()
+    };
     while (words.left) declared(words, words.next(), map, ids, shadows);
-    if (!map.buckets.size && !map.devices.size) throw new Fault(`${file}: it declares no device and no bucket: it isn't what 'crushtool -d' writes`);
+    if (!map.buckets.size && !map.devices.size)
+        throw new Fault(`${file}: it declares no device and no bucket: it isn't what 'crushtool -d' writes`);
     map.takesClasses = takeClasses(map, shadows);
     map.holes = markHoles(map, there?.(0) ?? (map.devices.has(0) && map.devices.get(0) !== "device0"));
     return map;
@@ -111,8 +120,12 @@ function declared(words, word, map, ids, shadows) {
 
 function bucketOf(words, typeName, map, ids, shadows) {
     const type = [...map.types].find(([, name]) => name === typeName)?.[0];
-    if (type === undefined) throw words.fault(`'${typeName}' is neither a type of buckets nor the beginning of a declaration`);
-    const bucket = { id: null, name: words.next(), type, alg: "", hash: "rjenkins1", items: [], shadow: null }, classes = [];
+    if (type === undefined)
+        throw words.fault(`'${typeName}' is neither a type of buckets nor the beginning of a declaration`);
+    const bucket = {
+        id: null, name: words.next(), type, alg: "", hash: "rjenkins1", items: [], shadow: null
+    };
+    const classes = [];
     words.next("{");
     while (!words.passes("}")) {
         const word = words.next();
@@ -131,7 +144,8 @@ function bucketOf(words, typeName, map, ids, shadows) {
             throw words.fault(`a bucket has no '${word}'`);
         }
     }
-    if (bucket.id === null || bucket.id >= 0) throw words.fault(`the bucket '${bucket.name}' has no id below 0`);
+    if (bucket.id === null || bucket.id >= 0)
+        throw words.fault(`the bucket '${bucket.name}' has no id below 0`);
     bucket.items = placed(words, bucket);
     for (const [name, id] of classes) shadows.push({ bucket: bucket.id, class: name, id });
     return bucket;
@@ -153,7 +167,8 @@ function itemOf(words, map, ids) {
 function placed(words, { name, items }) {
     const found = items.map(() => null);
     for (const { id, weight, place } of items.filter((it) => it.place !== null)) {
-        if (!(place in found) || found[place]) throw words.fault(`the bucket '${name}' has no free place ${place}`);
+        if (!(place in found) || found[place])
+            throw words.fault(`the bucket '${name}' has no free place ${place}`);
         found[place] = { id, weight };
     }
     const rest = items.filter((it) => it.place === null).map(({ id, weight }) => ({ id, weight }));
@@ -161,7 +176,8 @@ function placed(words, { name, items }) {
 }
 
 function ruleOf(words, ids) {
-    const rule = { id: null, name: words.next(), kind: "replicated", steps: [], sizes: null, odd: null }, sizes = {};
+    const rule = { id: null, name: words.next(), kind: "replicated", steps: [], sizes: null, odd: null };
+    const sizes = {};
     words.next("{");
     while (!words.passes("}")) {
         const word = words.next();
@@ -169,7 +185,8 @@ function ruleOf(words, ids) {
             rule.id = words.number();
         } else if (word === "type") {
             rule.kind = words.next();
-            if (rule.kind !== "replicated" && rule.kind !== "erasure") rule.odd = rule.kind.startsWith("msr_") ? MSR : `its type is ${rule.kind}`;
+            if (rule.kind !== "replicated" && rule.kind !== "erasure")
+                rule.odd = rule.kind.startsWith("msr_") ? MSR : `its type is ${rule.kind}`;
         } else if (word === "min_size" || word === "max_size") {
             sizes[word] = words.number();
         } else if (word === "step") {
@@ -198,7 +215,9 @@ function stepOf(words, ids) {
         const mode = words.next(), count = words.number();
         words.next("type");
         const type = words.next();
-        return mode === "firstn" || mode === "indep" ? [op, mode, count, type] : { odd: `it has a step ${op} ${mode}` };
+        return mode === "firstn" || mode === "indep"
+            ? [op, mode, count, type]
+            : { odd: `it has a step ${op} ${mode}` };
     }
     if (op.startsWith("set_")) return [op, words.number()];
     throw words.fault(`there is no step '${op}'`);
@@ -206,7 +225,8 @@ function stepOf(words, ids) {
 
 // A weight set with its key: of each bucket the rows of its positions, and other ids.
 function weightSetOf(words) {
-    const own = { rows: new Map(), withIds: [], rounded: false }, key = words.passes(ALL) ? -1 : words.number();
+    const own = { rows: new Map(), withIds: [], rounded: false };
+    const key = words.passes(ALL) ? -1 : words.number();
     if (key === -1 && words.peek() !== "{") words.next();
     words.next("{");
     while (words.passes("{")) {
@@ -214,8 +234,12 @@ function weightSetOf(words) {
         while (!words.passes("}")) {
             const word = words.next();
             if (word === "bucket_id") bucket = words.number();
-            else if (word === "weight_set") own.rows.set(bucket, words.listed(() => words.listed(() => words.weight())));
-            else if (word === "ids") own.withIds.push(...words.listed(() => words.number()).length ? [bucket] : []);
+            else if (word === "weight_set") own.rows.set(
+                bucket, words.listed(() => words.listed(() => words.weight()))
+            );
+            else if (word === "ids") own.withIds.push(
+                ...words.listed(() => words.number()).length ? [bucket] : []
+            );
             else throw words.fault(`a weight set has no '${word}'`);
         }
     }
@@ -230,7 +254,8 @@ function takeClasses(map, shadows) {
         const rows = new Map([...map.weightSets].map(([key, it]) => [key, new Map(it.rows)]));
         makeShadows(map, shadows);
         // the text has their rows too
-        for (const [key, own] of rows) for (const [bucket, row] of own) map.weightSets.get(key).rows.set(bucket, row);
+        for (const [key, own] of rows)
+            for (const [bucket, row] of own) map.weightSets.get(key).rows.set(bucket, row);
     }
     let found = false;
     for (const step of [...map.rules.values()].flatMap((it) => it.steps)) {

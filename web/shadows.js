@@ -40,7 +40,9 @@ function copied(map, bucket, all) {
 function copyRows(rows, bucket, id, items, places, sums) {
     rows.delete(id);
     if (!rows.get(bucket)?.length) return;
-    const found = rows.get(bucket).map((row, at) => items.map((it, place) => (it.id >= 0 ? row[places[place]] : sums.get(it.id)?.[at] ?? 0)));
+    const found = rows.get(bucket).map(
+        (row, at) => items.map((it, place) => (it.id >= 0 ? row[places[place]] : sums.get(it.id)?.[at] ?? 0))
+    );
     rows.set(id, found);
     sums.set(id, found.map(total));
 }
