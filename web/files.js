@@ -1,5 +1,6 @@
 // Files that are dropped or chosen: which of a cluster's files each of them is, and what it says.
 import { BUCKETS, DEVICES, computedPools, fits } from "./computable.js";
+import { pause } from "./dom.js";
 import { Fault, WRITES, isOfGroups, kindOf, readCrush, readOsd } from "./dump.js";
 import { marked, textsOf } from "./map_texts.js";
 import { readText } from "./read_text.js";
@@ -80,7 +81,10 @@ async function written(name, dump, osd, pools) {
 // set places isn't known before there are pools.
 async function ofText({ name, text }, osd, there, pools) {
     const own = marked(text), asItIs = { ...own, texts: [own.text] };
-    const read = readOrNot(text, name, there), whole = read && fits(read) && !read.weightSets.size;
+    const read = await readOrNot(text, name, there);
+    await pause();
+    const whole = read && fits(read) && !read.weightSets.size;
+    await pause();
     if (!read || !pools.length && !(whole && read.takesClasses))
         return { name, ...asItIs, places: {}, shown: 1, dump: null };
     const found = await written(name, read, osd, pools);
@@ -88,9 +92,9 @@ async function ofText({ name, text }, osd, there, pools) {
 }
 
 // The map of a text, or nothing where the text can't be one, of which the service says the line.
-function readOrNot(text, name, there) {
+async function readOrNot(text, name, there) {
     try {
-        return readText(text, name, there);
+        return await readText(text, name, there);
     } catch (why) {
         if (why instanceof Fault) return null;
         throw why;

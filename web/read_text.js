@@ -1,33 +1,43 @@
 // The map of a text as `crushtool -d` writes it, in the form of a dump's map: with classes, weight
 // sets and what isn't computed, which the service doesn't read in a text.
+import { pause } from "./dom.js";
 import { Fault, MSR, TUNABLES } from "./dump.js";
 import { markHoles } from "./holes.js";
 import { makeShadows } from "./shadows.js";
 
 const WORD = /[{}[\]]|[^\s{}[\]]+/g, INTEGER = /^-?\d{1,10}$/, WEIGHT = /^\d{1,10}(\.\d{1,20})?$/;
+const SLICE_MS = 30;
 // the key of the weight set of all pools, as crushtool writes it: that of a dump is -1
 const ALL = "18446744073709551615";
 
-// The words of a text, one after the other, each with its line.
+// The words of a text, one after the other. Those of a line are found when it is their turn; `last`
+// is the line of the last one that was found.
 class Words {
     constructor(text, file) {
-        const lines = text.split("\n").map((line) => line.split("#", 1)[0].match(WORD) ?? []);
-        Object.assign(
-            this,
-            { file, place: 0, words: lines.flat(), lines: lines.flatMap((own, at) => own.map(() => at + 1)) }
-        );
+        Object.assign(this, { file, lines: text.split("\n"), line: 0, last: 1, words: [], place: 0 });
+    }
+
+    fill() {
+        while (this.place >= this.words.length && this.line < this.lines.length) {
+            this.words = this.lines[this.line].split("#", 1)[0].match(WORD) ?? [];
+            this.place = 0;
+            this.line += 1;
+            if (this.words.length) this.last = this.line;
+        }
     }
 
     fault(why) {
-        return new Fault(`${this.file}: line `
-            + `${this.lines[Math.min(this.place, this.lines.length - 1)] ?? 1}: ${why}`);
+        this.fill();
+        return new Fault(`${this.file}: line ${this.last}: ${why}`);
     }
 
     get left() {
+        this.fill();
         return this.place < this.words.length;
     }
 
     peek() {
+        this.fill();
         return this.words[this.place] ?? "";
     }
 
@@ -79,14 +89,21 @@ function fixed(text) {
 }
 
 // The map of a text; a Fault names the line where it can't be one. `there` says whether the cluster
-// has a device of an id, where that is known.
-export function readText(text, file, there) {
+// has a device of an id, where that is known. It is read in parts, so that the browser can draw and
+// listen between them.
+export async function readText(text, file, there) {
     const words = new Words(text.replace(/^\ufeff/, ""), file), ids = new Map(), shadows = [];
     const map = {
         file, rounded: true, types: new Map(), devices: new Map(), classes: new Map(), tunables: [],
         buckets: new Map(), rules: new Map(), weightSets: new Map()
     };
-    while (words.left) declared(words, words.next(), map, ids, shadows);
+    for (let until = performance.now() + SLICE_MS; words.left;) {
+        declared(words, words.next(), map, ids, shadows);
+        if (performance.now() < until) continue;
+        await pause();
+        until = performance.now() + SLICE_MS;
+    }
+    await pause();
     if (!map.buckets.size && !map.devices.size)
         throw new Fault(`${file}: it declares no device and no bucket: it isn't what 'crushtool -d' writes`);
     map.takesClasses = takeClasses(map, shadows);
