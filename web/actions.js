@@ -2,6 +2,8 @@
 import { el } from "./dom.js";
 
 export function placeActions({ tenant }) {
-    const link = (way, name, text) => el("a", { class: "act", href: `#/${tenant}/drain/${way}:${name}` }, text);
+    const link = (way, name, text) => el(
+        "a", { class: "act", href: `#/${tenant}/drain/${way}:${name}` }, text
+    );
     return ({ name }) => [link("drain", name, `Drain ${name}`), link("fail", name, `${name} fails`)];
 }

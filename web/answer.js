@@ -13,8 +13,11 @@ async function compare(cluster, pools, lists, work) {
     for (const pool of pools) {
         const { rows } = await plainUsage(cluster, pool, work), { counts } = lists.get(pool.id);
         if (rows.some((it) => it.entries !== (counts[it.device] ?? 0))) {
-            throw new Unlike(`The copy doesn't lie as the cluster does (pool ${pool.name}): on the service it has states of devices that were set elsewhere, or its pool isn't as filled in. No request lists these; `
-                + "drop osd.json or a CSV of all states on the page, and try again.");
+            throw new Unlike(
+                `The copy doesn't lie as the cluster does (pool ${pool.name}): on the service it has states `
+                    + `of devices that were set elsewhere, or its pool isn't as filled in. No request lists `
+                    + `these; ` + "drop osd.json or a CSV of all states on the page, and try again."
+            );
         }
     }
 }
@@ -22,19 +25,31 @@ async function compare(cluster, pools, lists, work) {
 // The groups of a pool whose exceptions may be removed: where the map changes all; else those that
 // move, those with a pair that names a device whose state changes, and those with a whole list.
 function inDoubt({ pairs, lists }, ids, before, after) {
-    const own = [...pairs].filter(([group, of]) => !ids || of.some((pair) => pair.some((it) => ids.has(it))) || String(listAt(before, group)) !== String(listAt(after, group)));
+    const own = [...pairs].filter(
+        ([group, of]) => !ids || of.some(
+            (pair) => pair.some((it) => ids.has(it))
+        ) || String(listAt(before, group)) !== String(listAt(after, group))
+    );
     return new Set([...own.map(([group]) => group), ...lists.keys()]);
 }
 
 // Takes away the exceptions of a pool that Ceph's monitors would remove then, and gives how many
 // these are: `ids` are the devices whose states change, `map` is another map.
 async function removeBroken(cluster, copy, pool, version, held, { ids, states, map }, before, after, work) {
-    const on = map ?? cluster.map, { kept: stays } = keeper(on, (id) => statesOn(on, states)(id).reweight > 0), groups = [...inDoubt(held, ids, before, after)].filter((it) => it < pool.pg_num);
+    const on = map ?? cluster.map;
+    const { kept: stays } = keeper(on, (id) => statesOn(on, states)(id).reweight > 0);
+    const groups = [...inDoubt(held, ids, before, after)].filter((it) => it < pool.pg_num);
     let removed = 0;
     if (groups.length) work.step(`Exceptions of ${pool.name} that Ceph would remove`);
-    const raws = groups.length ? await rawsIn(copy, pool, version, groups, statesOn(on, states), held.isBatched() ? new Map() : held.pairs, work) : [];
+    const raws = groups.length
+        ? await rawsIn(
+            copy, pool, version, groups, statesOn(on, states), held.isBatched() ? new Map() : held.pairs,
+            work
+        )
+        : [];
     for (const [group, raw] of raws) {
-        const pairs = held.pairs.get(group) ?? [], list = held.lists.get(group), kept = stays(pool, raw, pairs, list);
+        const pairs = held.pairs.get(group) ?? [], list = held.lists.get(group);
+        const kept = stays(pool, raw, pairs, list);
         removed += pairs.length - kept.pairs.length + (list && !kept.list ? 1 : 0);
         if (kept.pairs.length) held.pairs.set(group, kept.pairs);
         else held.pairs.delete(group);
@@ -47,7 +62,8 @@ async function removeBroken(cluster, copy, pool, version, held, { ids, states, m
 async function differ(pools, before, after, how) {
     const found = [];
     for (const pool of pools) {
-        const lists = { before: before.get(pool.id), after: after.get(pool.id) }, it = await readLong("differences", [], { pool, ...lists, ...how });
+        const lists = { before: before.get(pool.id), after: after.get(pool.id) };
+        const it = await readLong("differences", [], { pool, ...lists, ...how });
         if (!it) throw notRead(`Lists of ${pool.name}`);
         found.push({ pool, lists, ...it });
     }
@@ -57,23 +73,31 @@ async function differ(pools, before, after, how) {
 // The lists of some pools in a copy, each with what it holds.
 async function allLists(copy, pools, version, held, state, words, work) {
     const found = new Map();
-    for (const pool of pools) found.set(pool.id, await listsIn(copy, pool, version, held.get(pool.id), state, words, work));
+    for (const pool of pools)
+        found.set(pool.id, await listsIn(copy, pool, version, held.get(pool.id), state, words, work));
     return found;
 }
 
 // The stages of a change on a copy of pools that have one text.
 async function stagesOn(cluster, group, copy, stages, how, work) {
     const { pools } = group, held = new Map(), found = [];
-    for (const it of pools) held.set(it.id, (await exceptionsOf(cluster, it, work)).withPairs(copy.pairs.get(it.id)));
-    const before = await allLists(copy, pools, NOW, held, statesOn(cluster.map, cluster.known.states), "Where the groups lie now", work);
+    for (const it of pools)
+        held.set(it.id, (await exceptionsOf(cluster, it, work)).withPairs(copy.pairs.get(it.id)));
+    const before = await allLists(
+        copy, pools, NOW, held, statesOn(cluster.map, cluster.known.states), "Where the groups lie now", work
+    );
     work.step("Comparing the copy with the cluster");
     await compare(cluster, pools, before, work);
     for (const { words, change, states, then } of stages) {
         work.step(words);
-        const version = await change(copy, group, held) ?? NOW, last = then?.(), state = statesOn(last?.map ?? cluster.map, states);
+        const version = await change(copy, group, held) ?? NOW, last = then?.();
+        const state = statesOn(last?.map ?? cluster.map, states);
         let after = await allLists(copy, pools, version, held, state, words, work), removed = 0;
         for (const pool of last ? pools : []) {
-            const own = held.get(pool.id).copied(), count = await removeBroken(cluster, copy, pool, version, own, last, before.get(pool.id), after.get(pool.id), work);
+            const own = held.get(pool.id).copied();
+            const count = await removeBroken(
+                cluster, copy, pool, version, own, last, before.get(pool.id), after.get(pool.id), work
+            );
             if (count) {
                 removed += count;
                 held.set(pool.id, own);
@@ -95,7 +119,9 @@ async function stagesOn(cluster, group, copy, stages, how, work) {
 export async function stagesOf(cluster, pools, stages, work, later = null, how = {}) {
     const found = stages.map(() => Object.assign([], { removed: 0 }));
     for (const group of groupsOf(cluster, pools, later)) {
-        const own = await withCopy(cluster, group, work, (copy) => stagesOn(cluster, group, copy, stages, how, work));
+        const own = await withCopy(
+            cluster, group, work, (copy) => stagesOn(cluster, group, copy, stages, how, work)
+        );
         own.forEach((it, place) => {
             found[place].push(...it);
             found[place].removed += it.removed;
@@ -111,9 +137,16 @@ export async function movesByWord(cluster, pools, before, later, map, work) {
     const found = [], { states } = cluster.known, state = statesOn(map, states);
     for (const pool of pools) {
         const lies = (copy, held) => listsIn(copy, pool, NOW, held, state, "Where the groups lie then", work);
-        const after = await withCopy(cluster, { text: later.texts[later.places[pool.id]], pools: [pool] }, work, async (copy) => {
-            const held = (await exceptionsOf(cluster, pool, work)).withPairs(copy.pairs.get(pool.id)), lists = await lies(copy, held), left = held.copied();
-            if (!await removeBroken(cluster, copy, pool, NOW, left, { states, map }, before.get(pool.id), lists, work)) return lists;
+        const after =
+            await withCopy(cluster, { text: later.texts[later.places[pool.id]], pools: [pool] }, work, async (copy) => {
+            const held = (await exceptionsOf(cluster, pool, work)).withPairs(copy.pairs.get(pool.id));
+            const lists = await lies(copy, held), left = held.copied();
+            if (
+                !await removeBroken(
+                    cluster, copy, pool, NOW, left, { states, map }, before.get(pool.id), lists, work
+                )
+            )
+                return lists;
             await copy.exceptions(pool, left.sent());
             return lies(copy, left);
         });
@@ -128,11 +161,15 @@ export async function movesByWord(cluster, pools, before, later, map, work) {
 export async function canMove(cluster, pools, devices, work, wanted = () => true) {
     const found = new Map();
     for (const pool of pools) {
-        const has = new Set(), { pairs, lists } = await exceptionsOf(cluster, pool, work), own = new Set(devices);
+        const has = new Set(), { pairs, lists } = await exceptionsOf(cluster, pool, work);
+        const own = new Set(devices);
         for (const id of devices) {
             if (!wanted()) throw new Stopped();
             work.step(`Which groups can move: ${pool.name}, ${cluster.name(id)}`);
-            const { groups } = await report("impact", `Impact of ${cluster.name(id)}`, `${cluster.path(pool)}/impact/${id}`, pool, work.signal);
+            const { groups } = await report(
+                "impact", `Impact of ${cluster.name(id)}`, `${cluster.path(pool)}/impact/${id}`, pool,
+                work.signal
+            );
             for (const it of groups) has.add(it);
         }
         for (const [group, of] of pairs) if (of.some(([, to]) => own.has(to))) has.add(group);
@@ -144,7 +181,8 @@ export async function canMove(cluster, pools, devices, work, wanted = () => true
 
 // How many of these groups have pairs that break the pool's rule; Ceph's monitors remove these.
 export async function breaking(cluster, copy, pool, groups, exceptions, work) {
-    const state = statesOn(cluster.map, cluster.known.states), { breaks } = keeper(cluster.map, (id) => state(id).reweight > 0);
+    const state = statesOn(cluster.map, cluster.known.states);
+    const { breaks } = keeper(cluster.map, (id) => state(id).reweight > 0);
     let found = 0;
     for (const [group, pairs] of groups) {
         work.step(`Whether group ${group} keeps to its rule`);

@@ -38,7 +38,8 @@ export async function dropLeft() {
         const name = key.slice(COPY.length);
         await holding(name, (free) => free && drop(name), { ifAvailable: true });
     }
-    for (const record of kept().filter((it) => it.note?.copy && !localStorage.getItem(COPY + it.tenant))) forget(record);
+    for (const record of kept().filter((it) => it.note?.copy && !localStorage.getItem(COPY + it.tenant)))
+        forget(record);
 }
 
 // The copies of a tenant that the service has, whichever browser made them.
@@ -56,31 +57,43 @@ export async function copiesOf(tenant, signal) {
 // there and empty is the one that was made.
 async function made(tenant, signal) {
     for (let number = 1; number <= MOST; number += 1) {
-        const name = nameOf(tenant, number), reply = await ask(`Make the copy ${name}`, "PUT", `/t/${name}`, undefined, signal);
+        const name = nameOf(tenant, number);
+        const reply = await ask(`Make the copy ${name}`, "PUT", `/t/${name}`, undefined, signal);
         if (reply.status === 201) return name;
         if (reply.error !== "exists") good(reply, "The copy");
-        if (reply.again && (await ask(`Look at ${name}`, "GET", `/t/${name}`, undefined, signal)).epoch === 0) return name;
+        if (reply.again && (await ask(`Look at ${name}`, "GET", `/t/${name}`, undefined, signal)).epoch === 0)
+            return name;
     }
-    throw new Unlike(`The service has ${MOST} copies of ${tenant} already: other browsers work with it, or left them. Drop them on the view Map.`);
+    throw new Unlike(`The service has ${MOST} copies of ${tenant} already: other browsers work with it, or `
+        + `left them. Drop them on the view Map.`);
 }
 
 // The text of a map with the same devices and the rules of the same numbers, by which nothing lies
 // anywhere: moves from it to another version list all groups.
 export function emptyMap(text) {
-    const devices = Array.from(text.matchAll(/^device \d+ \S+/gm), (it) => it[0]), rules = text.matchAll(/^rule \S+ \{\s+id (\d+)\s+type (\w+)/gm);
-    return ["tunable choose_local_tries 0", "tunable choose_local_fallback_tries 0", ...devices, "type 0 osd", ...Array.from(rules, ([, id, kind]) => `rule r${id} { id ${id} type ${kind} step emit }`), ""].join("\n");
+    const devices = Array.from(text.matchAll(/^device \d+ \S+/gm), (it) => it[0]);
+    const rules = text.matchAll(/^rule \S+ \{\s+id (\d+)\s+type (\w+)/gm);
+    return [
+        "tunable choose_local_tries 0", "tunable choose_local_fallback_tries 0", ...devices, "type 0 osd",
+        ...Array.from(rules, ([, id, kind]) => `rule r${id} { id ${id} type ${kind} step emit }`), ""
+    ].join("\n");
 }
 
 // The exceptions of a pool, without those that name a device which the newest map lacks: these have
 // no effect, and the service takes none of them anew.
 async function exceptionsOf(cluster, pool, { signal }, devices) {
-    return (await exceptionsIn(cluster, pool, signal)).filter((it) => devices.has(it.from) && devices.has(it.to));
+    return (await exceptionsIn(cluster, pool, signal)).filter(
+        (it) => devices.has(it.from) && devices.has(it.to)
+    );
 }
 
 // The exceptions of a pool: those of the service, or all those that are more than it takes.
 export async function exceptionsIn({ known, path }, pool, signal) {
     if (known.pairs[pool.id]) return known.pairs[pool.id].map(([group, from, to]) => ({ group, from, to }));
-    return good(await ask(`Exceptions of ${pool.name}`, "GET", `${path(pool)}/exceptions`, undefined, signal), "The pool's exceptions").exceptions;
+    return good(
+        await ask(`Exceptions of ${pool.name}`, "GET", `${path(pool)}/exceptions`, undefined, signal),
+        "The pool's exceptions"
+    ).exceptions;
 }
 
 // How many pairs the service takes of a pool.
@@ -100,9 +113,12 @@ function writable(name, work, devices) {
     return {
         name, set, devices, pairs: new Map(),
         async states(changes) {
-            for (const part of parts(changes.filter((it) => this.devices.has(it.id)))) await set("Set states of devices in the copy", "devices", { devices: part });
+            for (const part of parts(changes.filter((it) => this.devices.has(it.id))))
+                await set("Set states of devices in the copy", "devices", { devices: part });
         },
-        exceptions: (pool, pairs) => set("Set the pool's exceptions in the copy", "pools/exceptions", { id: pool.id, exceptions: pairs }),
+        exceptions: (pool, pairs) => set(
+            "Set the pool's exceptions in the copy", "pools/exceptions", { id: pool.id, exceptions: pairs }
+        ),
         // gives the number of the version
         map: async (text) => (await set("Import the map into the copy", "maps", { text })).version,
     };
@@ -128,7 +144,14 @@ export function groupsOf(cluster, pools, later = null) {
     const found = new Map();
     for (const pool of pools) {
         const key = `${cluster.of(pool)} ${later?.places[pool.id]}`;
-        if (!found.has(key)) found.set(key, { text: cluster.texts.get(cluster.of(pool)), later: later?.texts[later.places[pool.id]], pools: [] });
+        if (!found.has(key))
+            found.set(
+                key,
+                {
+                    text: cluster.texts.get(cluster.of(pool)), later: later?.texts[later.places[pool.id]],
+                    pools: []
+                }
+            );
         found.get(key).pools.push(pool);
     }
     return [...found.values()];
@@ -137,7 +160,9 @@ export function groupsOf(cluster, pools, later = null) {
 // Makes a copy of pools that have one text, with the known states of devices and with their
 // exceptions, and gives what `act` gives of it. The copy is dropped then.
 export function withCopy(cluster, group, work, act) {
-    if (cluster.tenant.length > LONGEST) throw new Unlike(`A copy has a longer name than its cluster, whose name may have ${LONGEST} letters for that.`);
+    if (cluster.tenant.length > LONGEST)
+        throw new Unlike(`A copy has a longer name than its cluster, whose name may have ${LONGEST} letters `
+            + `for that.`);
     return new Promise((done, failed) => {
         work.step("Making a copy of the cluster");
         made(cluster.tenant, work.signal).then((name) => holding(name, async () => {
@@ -161,9 +186,12 @@ export function withCopy(cluster, group, work, act) {
 
 // Drops what is in use when the page goes, without waiting for an answer.
 export function leave() {
-    for (const name of inUse) fetch(`/t/${name}`, { method: "DELETE", keepalive: true, redirect: "error" }).catch(() => {});
+    for (const name of inUse)
+        fetch(`/t/${name}`, { method: "DELETE", keepalive: true, redirect: "error" }).catch(() => {});
 }
 
 export function parts(all) {
-    return Array.from({ length: Math.ceil(all.length / CHANGES) }, (_, it) => all.slice(it * CHANGES, (it + 1) * CHANGES));
+    return Array.from(
+        { length: Math.ceil(all.length / CHANGES) }, (_, it) => all.slice(it * CHANGES, (it + 1) * CHANGES)
+    );
 }

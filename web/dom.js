@@ -38,7 +38,11 @@ export function fresh() {
 }
 
 export function options(select, pairs, chosen) {
-    select.replaceChildren(...pairs.map(([value, text]) => el("option", { value, selected: String(value) === String(chosen) }, text)));
+    select.replaceChildren(
+        ...pairs.map(
+            ([value, text]) => el("option", { value, selected: String(value) === String(chosen) }, text)
+        )
+    );
     return select;
 }
 
@@ -47,7 +51,8 @@ let clearing = 0;
 // Buttons of which Tab reaches one and the arrows the others: for a list of many.
 export function roving(event) {
     const step = { ArrowRight: 1, ArrowDown: 1, ArrowLeft: -1, ArrowUp: -1 }[event.key];
-    const from = event.target.closest("[role=toolbar] button"), to = step > 0 ? from?.nextElementSibling : step < 0 ? from?.previousElementSibling : null;
+    const from = event.target.closest("[role=toolbar] button");
+    const to = step > 0 ? from?.nextElementSibling : step < 0 ? from?.previousElementSibling : null;
     if (!to) return;
     event.preventDefault();
     from.tabIndex = -1;
@@ -117,7 +122,8 @@ export async function longCsv(heads, count, row) {
     const texts = [csv(heads, [])];
     for (let at = 0; at < count;) {
         const lines = [];
-        for (const end = performance.now() + SLICE_MS; at < count && performance.now() < end; at += 1) lines.push(`${row(at).join(",")}\n`);
+        for (const end = performance.now() + SLICE_MS; at < count && performance.now() < end; at += 1)
+            lines.push(`${row(at).join(",")}\n`);
         texts.push(lines.join(""));
         await pause();
     }

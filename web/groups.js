@@ -18,8 +18,15 @@ export function groupOf(pool, words) {
 // The devices of an up list, of which those are marked that the other one lacks. An empty place is
 // null or -1; `more` is what stands behind a device.
 export function devicesCell(cluster, list, other, kind, more = () => null) {
-    const one = (id) => [other.includes(id) ? el("span", {}, cluster.name(id)) : el(kind, {}, cluster.name(id)), more(id)];
-    return el("td", {}, Array.from(list, (id, place) => [place ? " " : "", id === null || id === -1 ? "none" : one(id)]).flat(3));
+    const one = (id) => [
+        other.includes(id) ? el("span", {}, cluster.name(id)) : el(kind, {}, cluster.name(id)), more(id)
+    ];
+    return el(
+        "td", {},
+        Array.from(
+            list, (id, place) => [place ? " " : "", id === null || id === -1 ? "none" : one(id)]
+        ).flat(3)
+    );
 }
 
 // An up list in a field of a CSV.

@@ -14,7 +14,9 @@ function devicesOf(map, bucket, found = new Set()) {
 
 function bucketsOfType(map, bucket, type) {
     if (bucket.type === type) return [bucket];
-    return map.types.get(bucket.type) < map.types.get(type) ? [] : bucket.items.filter((it) => it.bucket).flatMap((it) => bucketsOfType(map, it.bucket, type));
+    return map.types.get(bucket.type) < map.types.get(type)
+        ? []
+        : bucket.items.filter((it) => it.bucket).flatMap((it) => bucketsOfType(map, it.bucket, type));
 }
 
 // What the monitors keep on a map, with states: `mayBe` says whether a device is in. Of a group to
@@ -27,7 +29,8 @@ export function keeper(map, mayBe) {
     const domains = (rule, type) => once(`type ${rule.id} ${type}`, () => {
         const found = new Map();
         for (const name of new Set(takes(rule))) {
-            for (const bucket of map.all.has(name) ? bucketsOfType(map, map.all.get(name), type) : []) for (const id of below(bucket.name)) if (!found.has(id)) found.set(id, bucket.name);
+            for (const bucket of map.all.has(name) ? bucketsOfType(map, map.all.get(name), type) : [])
+                for (const id of below(bucket.name)) if (!found.has(id)) found.set(id, bucket.name);
         }
         return found;
     });
@@ -37,7 +40,9 @@ export function keeper(map, mayBe) {
         for (const name of takes(rule)) {
             const own = new Map(), queue = map.all.has(name) ? [map.all.get(name)] : [];
             if (!queue.length) own.set(map.devices.get(name)?.id, 1);
-            for (const bucket of queue) for (const it of bucket.whole) if (it.bucket) queue.push(it.bucket); else own.set(it.hole ? 0 : it.device.id, it.number);
+            for (const bucket of queue) for (const it of bucket.whole) if (it.bucket) queue.push(it.bucket); else own.set(
+                it.hole ? 0 : it.device.id, it.number
+            );
             for (const [id, weight] of own) found.set(id, (found.get(id) ?? 0) + weight);
         }
         return found;
@@ -47,15 +52,20 @@ export function keeper(map, mayBe) {
     function crowded(rule, pool, [op, , count, , type], items) {
         if (!map.types.get(type)) return false;
         const found = new Map(), of = domains(rule, type);
-        for (const it of new Set(items)) if (of.has(it)) found.set(of.get(it), (found.get(of.get(it)) ?? 0) + 1);
-        return op === "chooseleaf" ? [...found.values()].some((it) => it > 1) : found.size > wants(pool, count);
+        for (const it of new Set(items))
+            if (of.has(it)) found.set(of.get(it), (found.get(of.get(it)) ?? 0) + 1);
+        return op === "chooseleaf"
+            ? [...found.values()].some((it) => it > 1)
+            : found.size > wants(pool, count);
     }
     // a device, or a place without one, that isn't below what the rule takes
     function outside(rule, pool, items) {
         let root = null, types = new Map(), cursor = 0;
         for (const [op, ...words] of rule.steps) {
             if (op === "take") root = words[0];
-            else if (op === "choose" || op === "chooseleaf") types.has(words[3]) || types.set(words[3], wants(pool, words[1]));
+            else if (
+                op === "choose" || op === "chooseleaf"
+            ) types.has(words[3]) || types.set(words[3], wants(pool, words[1]));
             else if (op === "emit") {
                 const places = Math.max(0, [...types.values()].reduce((all, it) => all * it, 1));
                 if (root !== null && map.all.has(root)) {
@@ -68,13 +78,23 @@ export function keeper(map, mayBe) {
         return false;
     }
     function broken(rule, pool, items) {
-        return rule.steps.some((step) => (step[0] === "choose" || step[0] === "chooseleaf") && crowded(rule, pool, step, items)) || outside(rule, pool, items) || items.some((it) => it === null || !weights(rule).get(it) || !mayBe(it));
+        return rule.steps.some(
+            (step) => (step[0] === "choose" || step[0] === "chooseleaf") && crowded(rule, pool, step, items)
+        ) || outside(rule, pool,
+        items) || items.some((it) => it === null || !weights(rule).get(it) || !mayBe(it));
     }
     // the list as it is by a whole list and pairs; a list of which a device is out acts no more,
     // nor do the pairs then
-    const listed = (raw, pairs, list) => (list && isIdle(list, mayBe) ? raw : paired(list ?? raw, pairs, mayBe));
+    const listed = (raw, pairs, list) => (
+        list && isIdle(list, mayBe) ? raw : paired(list ?? raw, pairs, mayBe)
+    );
     function keptOnce(rule, pool, raw, { pairs, list }) {
-        if (broken(rule, pool, listed(raw, pairs, list)) || list && (String(list) === String(raw) || list.length !== pool.size)) return { pairs: [], list: undefined };
+        if (
+            broken(rule, pool, listed(raw, pairs, list)) || list && (
+                String(list) === String(raw) || list.length !== pool.size
+            )
+        )
+            return { pairs: [], list: undefined };
         return { pairs: pairs.filter(([from, to]) => raw.includes(from) && mayBe(to)), list };
     }
     const ruleOf = (pool) => map.rules.find((it) => it.id === pool.rule);

@@ -6,18 +6,25 @@
 // takes (`pairs`); primary affinities by device (`affinity`); what pools take and devices hold in
 // bytes (`bytes`, `rooms`, `ratios`); flags that keep devices in (`noout`, by devices, and
 // `flags`); pools in stretch mode (`stretched`), that are being split (`splits`), and groups with a
-// temporary list (`moving`); how groups lie by the cluster's own word (`lying`, `doubt`). A map may
-// have several `texts`, of which the first ones (`shown`) show it; `sides` says of pools which one
-// they have, if not the first.
+// temporary list (`moving`); how groups lie by the cluster's own word (`lying`, `doubt`); whether the
+// newest map has weights with all their decimals (`exact`). A map may have several `texts`, of
+// which the first ones (`shown`) show it; `sides` says of pools which one they have, if not the
+// first.
 
 const KNOWN = "crushcalc.tenant.";
-const EMPTY = { notes: [], left: [], whole: {}, primaries: {}, pairs: {}, affinity: {}, bytes: {}, rooms: {}, ratios: {}, noout: [], flags: [], stretched: [], moving: {}, splits: [], lying: null, doubt: null, texts: 1, shown: 1, sides: {} };
+const EMPTY = {
+    notes: [], left: [], whole: {}, primaries: {}, pairs: {}, affinity: {}, bytes: {}, rooms: {}, ratios: {},
+    noout: [], flags: [], stretched: [], moving: {}, splits: [], lying: null, doubt: null, exact: false,
+    texts: 1, shown: 1, sides: {}
+};
 
 // The names of what a dump says.
 export const SAID = Object.keys(EMPTY);
 
 export function tenants() {
-    return Object.keys(localStorage).filter((it) => it.startsWith(KNOWN)).map((it) => it.slice(KNOWN.length)).sort();
+    return Object.keys(localStorage).filter((it) => it.startsWith(KNOWN)).map(
+        (it) => it.slice(KNOWN.length)
+    ).sort();
 }
 
 export function known(tenant) {
@@ -43,17 +50,22 @@ export function forgetTenant(tenant) {
 // cluster's own tenant; a request on the tenant of another of its texts is noted as `of` it.
 export function learn(record, reply) {
     if (record.note?.copy) return;
-    const { request, ...fields } = JSON.parse(record.body), tenant = record.note?.of ?? record.tenant, it = known(tenant);
+    const { request, ...fields } = JSON.parse(record.body), tenant = record.note?.of ?? record.tenant;
+    const it = known(tenant);
     if (record.route === "maps") {
         if (record.note?.of) return;
         it.files[reply.version] = record.note?.file ?? "";
     } else if (record.route === "pools") {
-        it.pools = [...it.pools.filter((pool) => pool.id !== fields.id), { ...fields, min_size: record.note?.min_size }].sort((one, other) => one.id - other.id);
+        it.pools = [
+            ...it.pools.filter((pool) => pool.id !== fields.id),
+            { ...fields, min_size: record.note?.min_size }
+        ].sort((one, other) => one.id - other.id);
         it.pool = fields.id;
     } else if (record.route === "pools/remove") {
         it.pools = it.pools.filter((pool) => pool.id !== fields.id);
     } else if (record.route === "devices") {
-        for (const { id, ...state } of fields.devices) it.states[id] = { reweight: 65536, up: true, ...it.states[id], ...state };
+        for (const { id, ...state } of fields.devices)
+            it.states[id] = { reweight: 65536, up: true, ...it.states[id], ...state };
     } else if (record.route === "devices/csv") {
         for (const [id, state] of statesOf(fields.csv)) it.states[id] = state;
     }

@@ -42,8 +42,18 @@ function flatPairs(pairs) {
 // `affine` is whether devices have a primary affinity.
 export class Exceptions {
     constructor(known, pool, pairs) {
-        const groups = Object.entries(known.primaries[pool.id] ?? {}).map(([group, device]) => [Number(group), device]);
-        Object.assign(this, { pairs: byGroup(pairs), lists: new Map((known.whole[pool.id] ?? []).map((it) => [it.group, it.devices])), primaries: new Map(groups), affinity: known.affinity, affine: Object.keys(known.affinity).length > 0 });
+        const groups = Object.entries(known.primaries[pool.id] ?? {}).map(
+            ([group, device]) => [Number(group), device]
+        );
+        Object.assign(
+            this,
+            {
+                pairs: byGroup(pairs),
+                lists: new Map((known.whole[pool.id] ?? []).map((it) => [it.group, it.devices])),
+                primaries: new Map(groups), affinity: known.affinity,
+                affine: Object.keys(known.affinity).length > 0
+            }
+        );
     }
 
     // the groups that have more than pairs
@@ -52,7 +62,9 @@ export class Exceptions {
     }
 
     of(group) {
-        return { list: this.lists.get(group), pairs: this.pairs.get(group), primary: this.primaries.get(group) };
+        return {
+            list: this.lists.get(group), pairs: this.pairs.get(group), primary: this.primaries.get(group)
+        };
     }
 
     // whether there are more pairs than the service takes of a pool
@@ -89,7 +101,10 @@ export class Exceptions {
 
     // the same, to be changed
     copied() {
-        return Object.assign(Object.create(Exceptions.prototype), this, { pairs: new Map(this.pairs), lists: new Map(this.lists) });
+        return Object.assign(
+            Object.create(Exceptions.prototype), this,
+            { pairs: new Map(this.pairs), lists: new Map(this.lists) }
+        );
     }
 }
 
@@ -100,14 +115,18 @@ export function statesOn(map, states) {
 
 // A group as the service says it, with what it doesn't know of it.
 export function settled(pool, reply, exceptions, state, isBatched) {
-    const { group, raw } = reply, has = exceptions.others().has(group) || isBatched && exceptions.pairs.has(group);
+    const { group, raw } = reply;
+    const has = exceptions.others().has(group) || isBatched && exceptions.pairs.has(group);
     const up = has ? settledUp(pool, raw, exceptions.of(group), state) : reply.up;
     return { ...reply, ...led(pool, group, up, exceptions.affinity) };
 }
 
 // What the service says of a group in a tenant.
 export async function askGroup(path, group, work) {
-    return good(await ask(`Group ${group}`, "GET", `${path}/groups/${group}`, undefined, work.signal), `Group ${group}`);
+    return good(
+        await ask(`Group ${group}`, "GET", `${path}/groups/${group}`, undefined, work.signal),
+        `Group ${group}`
+    );
 }
 
 // The same of many groups, as many at a time as the web server lets one have: each with its reply.
@@ -128,23 +147,32 @@ export async function askGroups(path, groups, work) {
 // set of the pool and all devices are up; `pairs` are then set again, and so are the states.
 export async function rawsIn(copy, pool, version, groups, state, pairs, work) {
     const path = `/t/${copy.name}/pools/${pool.id}`;
-    if (groups.length <= MOST) return new Map(Array.from(await askGroups(path, groups, work), ([group, { raw }]) => [group, raw]));
+    if (groups.length <= MOST)
+        return new Map(Array.from(await askGroups(path, groups, work), ([group, { raw }]) => [group, raw]));
     const down = [...copy.devices].filter((id) => !state(id).up);
     await copy.exceptions(pool, []);
     await copy.states(down.map((id) => ({ id, up: true })));
-    const lists = await report("lists", `Lists of ${pool.name}`, `${path}/moves/${EMPTY}/${version}`, pool, work.signal);
+    const lists = await report(
+        "lists", `Lists of ${pool.name}`, `${path}/moves/${EMPTY}/${version}`, pool, work.signal
+    );
     await copy.states(down.map((id) => ({ id, up: false })));
     if (pairs.size) await copy.exceptions(pool, flatPairs(pairs));
-    return new Map(groups.map((group) => [group, Array.from(listAt(lists, group), (it) => (it === -1 ? null : it))]));
+    return new Map(
+        groups.map((group) => [group, Array.from(listAt(lists, group), (it) => (it === -1 ? null : it))])
+    );
 }
 
 // The lists of a pool's groups in a copy, on one version, with exceptions and states: up lists, the
 // primaries, and what each device has by the service alone (`counts`).
 export async function listsIn(copy, pool, version, exceptions, state, words, work) {
-    const path = `/t/${copy.name}/pools/${pool.id}`, lists = () => report("lists", `Lists of ${pool.name}`, `${path}/moves/${EMPTY}/${version}`, pool, work.signal);
+    const path = `/t/${copy.name}/pools/${pool.id}`;
+    const lists = () => report(
+        "lists", `Lists of ${pool.name}`, `${path}/moves/${EMPTY}/${version}`, pool, work.signal
+    );
     work.step(`${words}: ${pool.name}`);
     work.goesOn();
-    const found = await lists(), others = [...exceptions.others()].filter((it) => it < pool.pg_num), own = new Map(), isBatched = exceptions.isBatched();
+    const found = await lists(), others = [...exceptions.others()].filter((it) => it < pool.pg_num);
+    const own = new Map(), isBatched = exceptions.isBatched();
     if (isBatched) {
         for (const part of exceptions.parts()) {
             await copy.exceptions(pool, flatPairs(part));
@@ -155,7 +183,14 @@ export async function listsIn(copy, pool, version, exceptions, state, words, wor
     }
     if (others.length) {
         work.step(`${words}: ${pool.name}, groups with lists and primaries of their own`);
-        for (const [group, raw] of await rawsIn(copy, pool, version, others, state, isBatched ? new Map() : exceptions.pairs, work)) own.set(group, Int32Array.from(settledUp(pool, raw, exceptions.of(group), state), (it) => it ?? -1));
+        for (
+            const [group, raw] of await rawsIn(
+                copy, pool, version, others, state, isBatched ? new Map() : exceptions.pairs, work
+            )
+        )
+            own.set(
+                group, Int32Array.from(settledUp(pool, raw, exceptions.of(group), state), (it) => it ?? -1)
+            );
     }
     if (!own.size && !exceptions.affine) return found;
     const after = await readLong("settled", [], { pool, lists: found, own, affinity: exceptions.affinity });

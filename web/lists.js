@@ -20,7 +20,10 @@ export function listsOf(rows, groups) {
     const lists = Array.from({ length: groups }, () => []);
     for (const it of rows) lists[it.group] = it.new;
     const found = flat(lists);
-    return { ...found, primaries: Int32Array.from(lists, (list) => list.find((it) => it !== null) ?? -1), counts: counted(found, greatest(found.items) + 1) };
+    return {
+        ...found, primaries: Int32Array.from(lists, (list) => list.find((it) => it !== null) ?? -1),
+        counts: counted(found, greatest(found.items) + 1)
+    };
 }
 
 // The lists as they are by what the service doesn't know: `own` are those of some groups, and
@@ -90,7 +93,8 @@ function partOf({ pg_num: groups }, group) {
 // device joins a list and leaves one. By the groups' parts of the pool's objects: what is written
 // in all (`wrote`), and by how much each device has more (`net`).
 function moves(pool, groups, old, next) {
-    const ids = greatest(old.items, next.items) + 1, gains = new Int32Array(ids), losses = new Int32Array(ids), net = new Float64Array(ids), gainedBy = new Int32Array(groups.length);
+    const ids = greatest(old.items, next.items) + 1, gains = new Int32Array(ids);
+    const losses = new Int32Array(ids), net = new Float64Array(ids), gainedBy = new Int32Array(groups.length);
     let wrote = 0;
     groups.forEach((group, place) => {
         const [one, other] = [listAt(old, place), listAt(next, place)], part = partOf(pool, group);
@@ -101,20 +105,43 @@ function moves(pool, groups, old, next) {
         gainedBy[place] = pool.kind === "erasure" ? placesAnew(one, other) : others(other, one).length;
         wrote += gainedBy[place] * part;
     });
-    return { moved: groups.length, anew: gainedBy.reduce((sum, it) => sum + it, 0), wrote, groups, gainedBy, old, next, gains, losses, net };
+    return {
+        moved: groups.length, anew: gainedBy.reduce((sum, it) => sum + it, 0), wrote, groups, gainedBy, old,
+        next, gains, losses, net
+    };
 }
 
 // The same of the rows of moves between two versions.
 export function movesOf(pool, all, affinity = {}) {
-    const rows = Object.keys(affinity).length ? all.map((it) => ({ ...it, old: led(pool, it.group, it.old, affinity).up, new: led(pool, it.group, it.new, affinity).up })).filter((it) => !same(it.old, it.new)) : all;
-    return moves(pool, Int32Array.from(rows, (it) => it.group), flat(rows.map((it) => it.old)), flat(rows.map((it) => it.new)));
+    const rows = Object.keys(affinity).length
+        ? all.map(
+            (it) => (
+                {
+                    ...it, old: led(pool, it.group, it.old, affinity).up,
+                    new: led(pool, it.group, it.new, affinity).up
+                }
+            )
+        ).filter((it) => !same(it.old, it.new))
+        : all;
+    return moves(
+        pool, Int32Array.from(rows, (it) => it.group), flat(rows.map((it) => it.old)),
+        flat(rows.map((it) => it.new))
+    );
 }
 
 // What differs between the lists of a pool before and after: the groups that move with their
 // lists, what each device has before and after, gains and loses, and what has no device.
 export function differences(pool, before, after, unordered = false) {
-    const groups = [], stays = unordered && pool.kind !== "erasure" ? (one, other) => same([...one].sort(), [...other].sort()) : same;
-    for (let group = 0; group < pool.pg_num; group += 1) if (!stays(listAt(before, group), listAt(after, group))) groups.push(group);
-    const of = (lists) => flat(groups.map((group) => [...listAt(lists, group)])), ids = greatest(before.items, after.items) + 1;
-    return { ...moves(pool, Int32Array.from(groups), of(before), of(after)), had: counted(before, ids), has: counted(after, ids), lackedBefore: lacking(pool, before), lacks: lacking(pool, after) };
+    const groups = [];
+    const stays = unordered && pool.kind !== "erasure"
+        ? (one, other) => same([...one].sort(), [...other].sort())
+        : same;
+    for (let group = 0; group < pool.pg_num; group += 1)
+        if (!stays(listAt(before, group), listAt(after, group))) groups.push(group);
+    const of = (lists) => flat(groups.map((group) => [...listAt(lists, group)]));
+    const ids = greatest(before.items, after.items) + 1;
+    return {
+        ...moves(pool, Int32Array.from(groups), of(before), of(after)), had: counted(before, ids),
+        has: counted(after, ids), lackedBefore: lacking(pool, before), lacks: lacking(pool, after)
+    };
 }

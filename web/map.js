@@ -35,7 +35,8 @@ export function devicesIn(text) {
 function all(parts) {
     const [first, ...others] = parts;
     for (const [devices, buckets, rules, types] of others) {
-        for (const [at, more] of [[0, devices], [1, buckets], [3, types]]) for (const [name, it] of more) if (!first[at].has(name)) first[at].set(name, it);
+        for (const [at, more] of [[0, devices], [1, buckets], [3, types]])
+            for (const [name, it] of more) if (!first[at].has(name)) first[at].set(name, it);
         for (const it of rules) if (!first[2].some((one) => one.id === it.id)) first[2].push(it);
     }
     return first;
@@ -52,7 +53,9 @@ function parsed(text) {
         } else if (words[0] === "}") {
             open = null;
         } else if (words.at(-1) === "{") {
-            open = words[0] === "rule" ? { name: words[1], steps: [] } : { name: words[1], type: words[0], items: [] };
+            open = words[0] === "rule"
+                ? { name: words[1], steps: [] }
+                : { name: words[1], type: words[0], items: [] };
             if (words[0] === "rule") rules.push(open); else buckets.set(open.name, open);
         } else if (words[0] === "device" && !open) {
             devices.set(words[2], { id: Number(words[1]), name: words[2], buckets: [] });
@@ -82,36 +85,53 @@ function joined(devices, buckets, rules, types) {
     const byId = new Map();
     for (const it of devices.values()) byId.set(it.id, it);
     const every = [...buckets.values()], all = every.filter((it) => !isOfClass(it));
-    for (const bucket of every) for (const item of bucket.items) Object.assign(item, { device: devices.get(item.name), bucket: buckets.get(item.name) });
+    for (const bucket of every)
+        for (const item of bucket.items)
+            Object.assign(item, { device: devices.get(item.name), bucket: buckets.get(item.name) });
     const places = new Map();
-    for (const it of every.flatMap((bucket) => bucket.items)) places.set(it.name, (places.get(it.name) ?? 0) + 1);
+    for (const it of every.flatMap((bucket) => bucket.items))
+        places.set(it.name, (places.get(it.name) ?? 0) + 1);
     for (const bucket of every) {
         // `whole` has the holes too
         bucket.whole = bucket.items;
         for (const it of bucket.whole) it.hole = isHole(bucket, it, places);
         bucket.items = bucket.items.filter((it) => !it.hole);
     }
-    for (const bucket of all) for (const it of bucket.items) ((it.device ?? it.bucket).buckets ??= []).push(bucket);
-    const fillers = [...devices.values()].filter((it) => isFiller(it) && !it.buckets.length && places.has(it.name));
+    for (const bucket of all)
+        for (const it of bucket.items) ((it.device ?? it.bucket).buckets ??= []).push(bucket);
+    const fillers = [...devices.values()].filter(
+        (it) => isFiller(it) && !it.buckets.length && places.has(it.name)
+    );
     for (const it of fillers) {
         devices.delete(it.name);
         byId.delete(it.id);
     }
     const roots = all.filter((it) => !it.buckets?.length), seen = new Map(all.map((it) => [it.name, it]));
-    return { devices, fillers, buckets: seen, all: buckets, rules, types, byId, roots, hosts: hostsOf(devices, seen), levels: levelsOf(all, types) };
+    return {
+        devices, fillers, buckets: seen, all: buckets, rules, types, byId, roots,
+        hosts: hostsOf(devices, seen), levels: levelsOf(all, types)
+    };
 }
 
 // What a map says, to be compared with another one: weights as numbers.
 export function signature({ devices, all, rules }) {
     const items = (it) => it.whole.map(({ name, number }) => [name, number]);
-    return JSON.stringify([[...devices.values()].map((it) => [it.id, it.name]).sort(), [...all.values()].map((it) => [it.id, it.name, it.type, it.alg, items(it)]).sort(), rules.map((it) => [it.id, it.kind, it.steps]).sort()]);
+    return JSON.stringify(
+        [
+            [...devices.values()].map((it) => [it.id, it.name]).sort(),
+            [...all.values()].map((it) => [it.id, it.name, it.type, it.alg, items(it)]).sort(),
+            rules.map((it) => [it.id, it.kind, it.steps]).sort()
+        ]
+    );
 }
 
 // Where a device was removed from a tree bucket Ceph leaves the device 0 with the weight 0, which
 // stands elsewhere too, and a mended text has a device of the weight 0 named hole: for people
 // neither is there.
 function isHole(bucket, { device, name, number }, places) {
-    return bucket.alg === "tree" && number === 0 && device && (device.id === 0 && places.get(name) > 1 || isFiller(device));
+    return bucket.alg === "tree" && number === 0 && device && (
+        device.id === 0 && places.get(name) > 1 || isFiller(device)
+    );
 }
 
 // Whether a bucket has the name of those in the tree of a class alone, which Ceph writes as
@@ -135,7 +155,8 @@ function levelsOf(buckets, types) {
 export function devicesBelow(bucket) {
     if (!bucket.below) {
         const found = new Set();
-        for (const it of bucket.items) for (const one of it.device ? [it.device] : devicesBelow(it.bucket)) found.add(one);
+        for (const it of bucket.items)
+            for (const one of it.device ? [it.device] : devicesBelow(it.bucket)) found.add(one);
         bucket.below = [...found];
     }
     return bucket.below;
@@ -144,7 +165,9 @@ export function devicesBelow(bucket) {
 // The weights that a device has in its buckets, as they are written, and added where it is in
 // several.
 export function weightOf(device) {
-    const found = device.buckets.flatMap((it) => it.items.filter((item) => item.device === device).map((item) => item.weight));
+    const found = device.buckets.flatMap(
+        (it) => it.items.filter((item) => item.device === device).map((item) => item.weight)
+    );
     return found.length === 1 ? found[0] : String(found.reduce((sum, it) => sum + Number(it), 0));
 }
 
@@ -152,7 +175,8 @@ export function weightOf(device) {
 // no bucket.
 function hostsOf(devices, buckets) {
     const hosts = [...buckets.values()].filter((it) => it.items.some((item) => item.device)).map((it) => ({
-        name: it.name, type: it.type, path: pathOf(it), devices: it.items.filter((item) => item.device).map((item) => item.device),
+        name: it.name, type: it.type, path: pathOf(it),
+        devices: it.items.filter((item) => item.device).map((item) => item.device),
     }));
     const alone = [...devices.values()].filter((it) => !it.buckets.length);
     return alone.length ? [...hosts, { name: "in no bucket", type: "", path: "", devices: alone }] : hosts;

@@ -9,12 +9,15 @@ import { keyOf, rowsOf } from "./sets.js";
 
 // the first line of a text that has straw2 buckets
 export const MARK = "# crushcalc: straw2";
-const NAME = /^[A-Za-z0-9_.-]{1,64}$/, KEYWORDS = new Set(["tunable", "device", "type", "rule", "choose_args", "class"]);
+const NAME = /^[A-Za-z0-9_.-]{1,64}$/;
+const KEYWORDS = new Set(["tunable", "device", "type", "rule", "choose_args", "class"]);
 
 // A text of `crushtool -d` as the service takes it, and by how many lines it is longer.
 export function marked(text) {
     const own = text.replace(/^\ufeff/, "");
-    return /^[ \t]*alg[ \t]+straw2[ \t\r]*$/m.test(own) && !own.startsWith(MARK) ? { text: `${MARK}\n${own}`, more: 1 } : { text, more: 0 };
+    return /^[ \t]*alg[ \t]+straw2[ \t\r]*$/m.test(own) && !own.startsWith(MARK)
+        ? { text: `${MARK}\n${own}`, more: 1 }
+        : { text, more: 0 };
 }
 
 // A weight of 65536ths with all its decimals, of which there are 16 at most. Many items have the
@@ -31,7 +34,8 @@ function names() {
     const taken = new Set();
     return (name, other) => {
         let given = name;
-        if (!NAME.test(name ?? "") || taken.has(name) || KEYWORDS.has(name)) for (given = other; taken.has(given);) given += "-";
+        if (!NAME.test(name ?? "") || taken.has(name) || KEYWORDS.has(name))
+            for (given = other; taken.has(given);) given += "-";
         taken.add(given);
         return given;
     };
@@ -45,7 +49,9 @@ class Shelf {
 
     takes(buckets, rows) {
         const same = (it) => String(this.rows.get(it)) === String(rows.get(it));
-        return new Set([...this.buckets, ...buckets]).size <= BUCKETS && [...buckets].every((it) => !this.buckets.has(it) || same(it));
+        return new Set([...this.buckets, ...buckets]).size <= BUCKETS && [...buckets].every(
+            (it) => !this.buckets.has(it) || same(it)
+        );
     }
 
     put(rule, buckets, rows) {
@@ -75,10 +81,14 @@ function plainShelves(map, rules) {
 // The texts for pools that can be computed, and of each pool by id the place of its text; the first
 // `shown` of them have the map's own weights. `more` are devices with states that the map lacks.
 export async function textsOf(map, pools, more = []) {
-    const fits = (it) => !ruleFault(map, it), rules = [...map.rules.values()].filter(fits), shelves = plainShelves(map, rules), shown = shelves.length, places = {};
+    const fits = (it) => !ruleFault(map, it), rules = [...map.rules.values()].filter(fits);
+    const shelves = plainShelves(map, rules), shown = shelves.length, places = {};
     for (const pool of pools) {
-        const rule = map.rules.get(pool.rule), { buckets } = reachOf(map, rule), rows = rowsOf(map, keyOf(map, pool.id), buckets);
-        let at = shelves.findIndex((it) => (rows.size ? it.withRows && it.takes(buckets, rows) : it.rules.has(rule)));
+        const rule = map.rules.get(pool.rule), { buckets } = reachOf(map, rule);
+        const rows = rowsOf(map, keyOf(map, pool.id), buckets);
+        let at = shelves.findIndex(
+            (it) => (rows.size ? it.withRows && it.takes(buckets, rows) : it.rules.has(rule))
+        );
         if (at < 0) at = shelves.push(new Shelf(true)) - 1;
         if (rows.size) shelves[at].put(rule, buckets, rows);
         places[pool.id] = at;
@@ -92,10 +102,24 @@ export async function textsOf(map, pools, more = []) {
     return { texts, places, shown };
 }
 
+// A text of a whole map, with what isn't computed too, for the page alone.
+export function wholeText(map) {
+    const whole = new Shelf(false);
+    for (const it of map.rules.values()) whole.put(it, [], []);
+    for (const it of map.buckets.keys()) whole.buckets.add(it);
+    return writerOf(map, [])(whole);
+}
+
 // Writes texts that have the same names. A hole has a device of the weight 0.
 function writerOf(map, more) {
-    const items = [...map.buckets.values()].flatMap((it) => it.items), give = names(), called = new Map(), filled = new Map();
-    const all = new Map([...items.filter((it) => it.id !== null && it.id >= 0).map((it) => [it.id, `osd.${it.id}`]), ...more.map((id) => [id, `osd.${id}`]), ...map.devices]);
+    const items = [...map.buckets.values()].flatMap((it) => it.items), give = names(), called = new Map();
+    const filled = new Map();
+    const all = new Map(
+        [
+            ...items.filter((it) => it.id !== null && it.id >= 0).map((it) => [it.id, `osd.${it.id}`]),
+            ...more.map((id) => [id, `osd.${id}`]), ...map.devices
+        ]
+    );
     const devices = [...all].sort((a, b) => a[0] - b[0]);
     let next = Math.max(-1, ...all.keys()) + 1;
     const declared = devices.map(([id, name]) => {
@@ -107,17 +131,38 @@ function writerOf(map, more) {
         called.set(next, give(`hole.${next}`, `device-${next}`));
         next += 1;
     }
-    for (const [id, it] of map.buckets) called.set(id, give(it.shadow ? `class.${it.shadow}.${-id}` : it.name, `bucket${id}`));
-    const giveType = names(), types = new Map([...map.types].map(([number, name]) => [number, giveType(name, `type-${number}`)])), ofName = new Map([...map.types].map(([number, name]) => [name, types.get(number)]));
+    for (const [id, it] of map.buckets)
+        called.set(id, give(it.shadow ? `class.${it.shadow}.${-id}` : it.name, `bucket${id}`));
+    const giveType = names();
+    const types = new Map([...map.types].map(([number, name]) => [number, giveType(name, `type-${number}`)]));
+    const ofName = new Map([...map.types].map(([number, name]) => [name, types.get(number)]));
     return (shelf) => {
-        const buckets = inOrder(map, shelf.buckets), holes = buckets.flatMap((it) => it.items.filter((one) => one.id === null)).map((it) => filled.get(it));
-        const own = all.size > DEVICES ? placedIn(buckets, shelf.rules) : null, lines = buckets.some((it) => it.alg === "straw2") ? [MARK] : [];
-        lines.push(...map.tunables.map(([name, value]) => `tunable ${name} ${value}`), ...declared.filter((_, at) => !own || own.has(devices[at][0])), ...holes.map((id) => `device ${id} ${called.get(id)}`));
-        for (const [number, name] of [...types].sort((a, b) => a[0] - b[0])) lines.push(`type ${number} ${name}`);
+        const buckets = inOrder(map, shelf.buckets);
+        const holes = buckets.flatMap(
+            (it) => it.items.filter((one) => one.id === null)
+        ).map((it) => filled.get(it));
+        const own = all.size > DEVICES ? placedIn(buckets, shelf.rules) : null;
+        const lines = buckets.some((it) => it.alg === "straw2") ? [MARK] : [];
+        lines.push(
+            ...map.tunables.map(([name, value]) => `tunable ${name} ${value}`),
+            ...declared.filter((_, at) => !own || own.has(devices[at][0])),
+            ...holes.map((id) => `device ${id} ${called.get(id)}`)
+        );
+        for (const [number, name] of [...types].sort((a, b) => a[0] - b[0]))
+            lines.push(`type ${number} ${name}`);
         for (const bucket of buckets) {
-            const row = shelf.rows.get(bucket.id), pos = (place) => (bucket.alg === "tree" ? ` pos ${place}` : "");
-            lines.push(`${types.get(bucket.type) ?? "unknown"} ${called.get(bucket.id)} {`, `\tid ${bucket.id}`, `\talg ${bucket.alg}`, "\thash 0",
-                ...bucket.items.map((it, place) => `\titem ${called.get(it.id ?? filled.get(it))} weight ${exact(row ? row[place] : it.weight)}${pos(place)}`), "}");
+            const row = shelf.rows.get(bucket.id);
+            const pos = (place) => (bucket.alg === "tree" ? ` pos ${place}` : "");
+            lines.push(
+                `${types.get(bucket.type) ?? "unknown"} ${called.get(bucket.id)} {`, `\tid ${bucket.id}`,
+                `\talg ${bucket.alg}`, "\thash 0",
+                ...bucket.items.map(
+                    (it, place) =>
+                        `\titem ${called.get(it.id ?? filled.get(it))} weight `
+                            + `${exact(row ? row[place] : it.weight)}${pos(place)}`
+                ),
+                "}"
+            );
         }
         for (const it of shelf.rules) lines.push(...ruleLines(it, called, ofName));
         return `${lines.join("\n")}\n`;
@@ -126,7 +171,11 @@ function writerOf(map, more) {
 
 // The devices that some buckets have, or rules take.
 function placedIn(buckets, rules) {
-    return new Set([...buckets.flatMap((it) => it.items.map((one) => one.id)), ...[...rules].flatMap(takesOf)].filter((id) => id !== null && id >= 0));
+    return new Set(
+        [
+            ...buckets.flatMap((it) => it.items.map((one) => one.id)), ...[...rules].flatMap(takesOf)
+        ].filter((id) => id !== null && id >= 0)
+    );
 }
 
 // The buckets with each behind those that are its items.
@@ -143,7 +192,16 @@ function inOrder(map, wanted) {
 }
 
 function ruleLines(rule, called, types) {
-    const step = ([op, ...words]) => (op === "take" ? `take ${called.get(words[0])}` : op.startsWith("choose") ? `${op} ${words[0]} ${words[1]} type ${types.get(words[2]) ?? "unknown"}` : [op, ...words].join(" "));
-    return [`rule ${names()(rule.name, `rule-${rule.id}`)} {`, `\tid ${rule.id}`, `\ttype ${rule.kind}`, ...(rule.sizes ? [`\tmin_size ${rule.sizes[0]}`, `\tmax_size ${rule.sizes[1]}`] : []),
-        ...rule.steps.filter((it) => it[0] !== "noop").map((it) => `\tstep ${step(it)}`), "}"];
+    const step = ([op, ...words]) => (
+        op === "take"
+            ? `take ${called.get(words[0])}`
+            : op.startsWith("choose")
+                ? `${op} ${words[0]} ${words[1]} type ${types.get(words[2]) ?? "unknown"}`
+                : [op, ...words].join(" ")
+    );
+    return [
+        `rule ${names()(rule.name, `rule-${rule.id}`)} {`, `\tid ${rule.id}`, `\ttype ${rule.kind}`,
+        ...(rule.sizes ? [`\tmin_size ${rule.sizes[0]}`, `\tmax_size ${rule.sizes[1]}`] : []),
+        ...rule.steps.filter((it) => it[0] !== "noop").map((it) => `\tstep ${step(it)}`), "}"
+    ];
 }

@@ -5,9 +5,11 @@ import { button, el, fault, fresh, labelled, pause, say, sayDone } from "./dom.j
 import { forgetTenant, known, learn, note, tenants } from "./known.js";
 import { devicesBelow, readLongMap, readMap, signature } from "./map.js";
 import { LONGEST, dropLeft, leave } from "./copies.js";
-import { keepWord, lyingByDevice, lyingByGroup } from "./lying.js";
+import { lyingByDevice, lyingByGroup } from "./lying.js";
+import { keepMap, keepWord } from "./remembered.js";
 import { tenantWith, tenantsOf } from "./sides.js";
-import { Refused, crushIn, filesOf, importMap, mapIn, osdIn, takeOsd, takeRooms, takeSaved, takeStates } from "./take.js";
+import { crushIn, filesOf, mapIn, osdIn } from "./files.js";
+import { Refused, importMap, takeOsd, takeRooms, takeSaved, takeStates } from "./take.js";
 import { filesOfDrop } from "./folder.js";
 import { aboutStraw } from "./refused.js";
 import { dropBox, showMap } from "./view_map.js";
@@ -18,11 +20,15 @@ import { showDrain } from "./view_drain.js";
 import { showObject } from "./view_object.js";
 import { Stopped, working } from "./waiting.js";
 
-const VIEWS = { map: "Map", pools: "Pools", usage: "Usage", compare: "Compare", drain: "Drain", object: "Object" };
+const VIEWS = {
+    map: "Map", pools: "Pools", usage: "Usage", compare: "Compare", drain: "Drain", object: "Object"
+};
 // a name of one or two points would be another path
 const NAME = /^(?!\.{1,2}$)[A-Za-z0-9_.-]{1,64}$/;
 const NO_MAP = "Drop the map too: crush.json, or map.txt.";
-const GONE = "a text of the map is gone from the service, with the pools that were computed on it: drop crush.json and osd.json again";
+const GONE =
+    "a text of the map is gone from the service, with the pools that were computed on it: drop crush.json "
+        + "and osd.json again";
 const at = (id) => document.getElementById(id);
 let cluster = null;
 
@@ -34,13 +40,17 @@ function decide({ what, why, changes, signal }) {
             notice.remove();
             giveUp(signal.reason);
         });
-        const title = el("strong", { id: fresh() }, what), notice = el("div", { class: "notice", role: "group", "aria-labelledby": title.id });
+        const title = el("strong", { id: fresh() }, what);
+        const notice = el("div", { class: "notice", role: "group", "aria-labelledby": title.id });
         const act = (then) => () => {
             notice.remove();
             then();
         };
         const kept = changes ? " Its number and bytes are kept here, so repeating it acts once." : "";
-        notice.append(title, el("p", {}, `${why}${kept}`), button("Repeat", act(repeat), { class: "main" }), button("Give it up", act(() => giveUp(new GivenUp("It was given up.")))));
+        notice.append(
+            title, el("p", {}, `${why}${kept}`), button("Repeat", act(repeat), { class: "main" }),
+            button("Give it up", act(() => giveUp(new GivenUp("It was given up."))))
+        );
         at("notices").append(notice);
         say("");
     });
@@ -58,11 +68,21 @@ async function openTenant(name, work) {
     }
     if (summary.epoch < known(name).epoch) forgetTenant(name);
     const it = { tenant: name, summary, known: note(name, { epoch: summary.epoch }) };
-    const summaries = await othersOf(it, work), epochs = [summary, ...summaries].map((one) => one.epoch).join(), same = cluster?.tenant === name && cluster.epochs === epochs;
-    Object.assign(it, same ? { map: cluster.map, texts: cluster.texts, usages: cluster.usages, plain: cluster.plain } : { map: null, texts: new Map(), usages: new Map(), plain: new Map() }, { epochs });
+    const summaries = await othersOf(it, work);
+    const epochs = [summary, ...summaries].map((one) => one.epoch).join();
+    const same = cluster?.tenant === name && cluster.epochs === epochs;
+    Object.assign(
+        it,
+        same
+            ? { map: cluster.map, texts: cluster.texts, usages: cluster.usages, plain: cluster.plain }
+            : { map: null, texts: new Map(), usages: new Map(), plain: new Map() },
+        { epochs }
+    );
     if (summary.versions && !it.map) await readNewest(it, [summary, ...summaries], work);
     it.name = (id) => it.map.byId.get(id)?.name ?? `device ${id}`;
-    it.deviceOf = (word) => it.map.devices.get(word)?.id ?? (/^device \d+$/.test(word) ? Number(word.slice(7)) : undefined);
+    it.deviceOf = (word) => it.map.devices.get(word)?.id ?? (
+        /^device \d+$/.test(word) ? Number(word.slice(7)) : undefined
+    );
     it.of = (pool) => tenantWith(name, it.known, pool);
     it.path = (pool) => `/t/${it.of(pool)}/pools/${pool.id}`;
     cluster = it;
@@ -76,7 +96,13 @@ async function othersOf(it, work) {
     for (const name of tenantsOf(tenant, own).slice(1)) {
         const reply = await ask(`Open ${name}`, "GET", `/t/${name}`, undefined, work.signal);
         if (reply.error === "no_tenant") {
-            it.known = note(tenant, { texts: 1, shown: 1, sides: {}, pools: own.pools.filter((pool) => !own.sides[pool.id]), notes: [...own.notes, GONE] });
+            it.known = note(
+                tenant,
+                {
+                    texts: 1, shown: 1, sides: {}, pools: own.pools.filter((pool) => !own.sides[pool.id]),
+                    notes: [...own.notes, GONE]
+                }
+            );
             return [];
         }
         if (reply.status !== 200) throw new Error(`${name}: ${meaning(reply.status, reply.error)}`);
@@ -89,7 +115,10 @@ async function othersOf(it, work) {
 async function readNewest(it, summaries, work) {
     work.step(`Reading the map of ${it.tenant}`);
     for (const [place, name] of tenantsOf(it.tenant, it.known).entries()) {
-        const reply = await ask("Read the newest version", "GET", `/t/${name}/maps/${summaries[place].versions}`, undefined, work.signal);
+        const reply = await ask(
+            "Read the newest version", "GET", `/t/${name}/maps/${summaries[place].versions}`, undefined,
+            work.signal
+        );
         if (reply.status !== 200) throw new Error(meaning(reply.status, reply.error));
         it.texts.set(name, reply.text);
         await pause();
@@ -101,7 +130,9 @@ class Taken extends Error {}
 
 async function makeTenant(name) {
     const reply = await ask(`Make ${name}`, "PUT", `/t/${name}`);
-    if (reply.error === "exists") throw new Taken(`There is a cluster ${name} already. Take another name, or add this map to that one: `);
+    if (reply.error === "exists")
+        throw new Taken(`There is a cluster ${name} already. Take another name, or add this map to that `
+            + `one: `);
     if (reply.status !== 201) throw new Error(`${name}: ${meaning(reply.status, reply.error)}`);
     note(name, {});
 }
@@ -114,8 +145,27 @@ function place() {
 }
 
 function tabs({ tenant, view }) {
-    at("tabs").replaceChildren(...(tenant ? Object.entries(VIEWS).map(([it, text]) => el("a", { href: `#/${tenant}/${it}`, "aria-current": it === view && "page" }, text)) : []));
-    at("tenant").replaceChildren(...(tenant ? [el("span", {}, "Cluster "), el("strong", {}, tenant), el("a", { href: "#/", "aria-label": "Change the cluster" }, "Change")] : []));
+    at("tabs").replaceChildren(
+        ...(
+            tenant
+                ? Object.entries(VIEWS).map(
+                    ([it, text]) => el(
+                        "a", { href: `#/${tenant}/${it}`, "aria-current": it === view && "page" }, text
+                    )
+                )
+                : []
+        )
+    );
+    at("tenant").replaceChildren(
+        ...(
+            tenant
+                ? [
+                    el("span", {}, "Cluster "), el("strong", {}, tenant),
+                    el("a", { href: "#/", "aria-label": "Change the cluster" }, "Change")
+                ]
+                : []
+        )
+    );
     document.title = tenant ? `${VIEWS[view]} of ${tenant}: crushcalc` : "crushcalc";
 }
 
@@ -136,7 +186,9 @@ function wantedOf(more) {
 // `said` is shown and has the focus, `file` is a map to be tried, `focus` says what has the focus.
 function viewOf({ view, more }, what) {
     const shows = {
-        map: () => showMap(cluster, what.said, take, refresh), pools: () => showPools(cluster, what.said, refresh, decodeURIComponent(more)), usage: () => showUsage(cluster), compare: () => showCompare(cluster, what, refresh),
+        map: () => showMap(cluster, what.said, take, refresh),
+        pools: () => showPools(cluster, what.said, refresh, decodeURIComponent(more)),
+        usage: () => showUsage(cluster), compare: () => showCompare(cluster, what, refresh),
         drain: () => showDrain(cluster, wantedOf(more)), object: () => showObject(cluster),
     };
     return shows[view]();
@@ -161,7 +213,8 @@ async function refresh(what = {}) {
         if (what.said) at("said")?.focus();
         else if (what.focus) at("main").querySelector(what.focus)?.focus();
     } finally {
-        if (place().view === here.view && place().tenant === here.tenant) at("main").removeAttribute("aria-busy");
+        if (place().view === here.view && place().tenant === here.tenant)
+            at("main").removeAttribute("aria-busy");
     }
 }
 
@@ -176,7 +229,8 @@ async function show(focus = true) {
     }
     try {
         await refresh();
-        if (focus && place().view === here.view) at("main").querySelector("h1").focus({ preventScroll: true });
+        if (focus && place().view === here.view)
+            at("main").querySelector("h1").focus({ preventScroll: true });
     } catch (why) {
         // another view was asked for meanwhile
         if (place().tenant !== here.tenant || place().view !== here.view) return undefined;
@@ -199,7 +253,9 @@ function stopped() {
 }
 
 function isName(field) {
-    field.setCustomValidity(NAME.test(field.value) ? "" : "1 to 64 letters, digits, - _ and ., and more than points.");
+    field.setCustomValidity(
+        NAME.test(field.value) ? "" : "1 to 64 letters, digits, - _ and ., and more than points."
+    );
     return field.reportValidity();
 }
 
@@ -211,23 +267,62 @@ function freeName() {
 
 function start(said) {
     const valid = { input: (event) => event.target.setCustomValidity("") };
-    const name = el("input", { id: "name", value: freeName(), maxlength: LONGEST, autocomplete: "off", on: valid }), there = el("input", { id: "there", maxlength: 64, autocomplete: "off", on: valid });
+    const name = el(
+        "input", { id: "name", value: freeName(), maxlength: LONGEST, autocomplete: "off", on: valid }
+    );
+    const there = el("input", { id: "there", maxlength: 64, autocomplete: "off", on: valid });
     const outcome = el("div", { id: "said", tabindex: "-1" }, said);
     const open = (event) => {
         event.preventDefault();
         if (isName(there)) location.hash = `#/${there.value}/map`;
     };
-    const links = tenants().length > 0 && [el("p", {}, "Open here before:"), el("ul", { class: "tenants" }, tenants().map((it) => el("li", {}, el("a", { href: `#/${it}/map` }, it))))];
-    return el("section", { class: "start" }, el("h1", { tabindex: "-1" }, "Plan a cluster on paper"),
-        el("p", { class: "lead" }, "May this host be drained? Which devices are full, what does a new host move? Computed from what the cluster itself writes of its CRUSH map, without touching the cluster."),
-        el("div", { class: "note" }, el("p", {}, "Computed are straw2, list, tree and uniform buckets, classes of devices, and exceptions of all kinds, as clusters of today have them. What crushcalc can't compute is named with its pools: buckets of ", el("code", {}, "alg straw"), ", MSR rules, local tries, weight sets with several positions."),
-            el("details", {}, el("summary", {}, "What can be done with straw buckets"), aboutStraw())),
+    const links = tenants().length > 0 && [
+        el("p", {}, "Open here before:"),
+        el(
+            "ul", { class: "tenants" },
+            tenants().map((it) => el("li", {}, el("a", { href: `#/${it}/map` }, it)))
+        )
+    ];
+    return el(
+        "section", { class: "start" }, el("h1", { tabindex: "-1" }, "Plan a cluster on paper"),
+        el(
+            "p", { class: "lead" },
+            "May this host be drained? Which devices are full, what does a new host move? Computed from "
+                + "what the cluster itself writes of its CRUSH map, without touching the cluster."
+        ),
+        el(
+            "div", { class: "note" },
+            el(
+                "p", {},
+                "Computed are straw2, list, tree and uniform buckets, classes of devices, and exceptions of "
+                    + "all kinds, as clusters of today have them. What crushcalc can't compute is named "
+                    + "with its pools: buckets of ",
+                el("code", {}, "alg straw"), ", MSR rules, local tries, weight sets with several positions."
+            ),
+            el("details", {}, el("summary", {}, "What can be done with straw buckets"), aboutStraw())
+        ),
         outcome,
-        el("div", { class: "card", role: "group", "aria-labelledby": "new" }, el("h2", { id: "new" }, "Begin with the map of a cluster"),
-            labelled("Cluster (tenant)", name, "A name of your choice. Under it the service keeps this cluster's maps, pools and device states, apart from all others; it calls that a tenant."),
-            dropBox((files) => take(files, name)), el("p", { class: "hint" }, "Then usage, moves and drains are a click away. Where there is no osd.json you fill in the pools.")),
-        el("form", { class: "card form", "aria-label": "A cluster that is there", on: { submit: open } }, el("h2", {}, "Or go on with one that is there"), links,
-            labelled("Its name", there), el("button", {}, "Open it")));
+        el(
+            "div", { class: "card", role: "group", "aria-labelledby": "new" },
+            el("h2", { id: "new" }, "Begin with the map of a cluster"),
+            labelled(
+                "Cluster (tenant)", name,
+                "A name of your choice. Under it the service keeps this cluster's maps, pools and device "
+                    + "states, apart from all others; it calls that a tenant."
+            ),
+            dropBox((files) => take(files, name)),
+            el(
+                "p", { class: "hint" },
+                "Then usage, moves and drains are a click away. Where there is no osd.json you fill in the "
+                    + "pools."
+            )
+        ),
+        el(
+            "form", { class: "card form", "aria-label": "A cluster that is there", on: { submit: open } },
+            el("h2", {}, "Or go on with one that is there"), links, labelled("Its name", there),
+            el("button", {}, "Open it")
+        )
+    );
 }
 
 // ---- files
@@ -237,22 +332,34 @@ async function takeFirst(tenant, files, work) {
     const osd = osdIn(files), map = await mapIn(files, osd);
     if (!map) throw new Error(NO_MAP);
     const version = await importMap(tenant, map, (file) => take([file]));
-    return osd ? takeWhole(tenant, map, files, work, version === 1 && known(tenant).seen === 1) : done(tenant, `${map.name} is version ${version} of the map. `, ["pools", "Make a pool"], ["compare", "Compare the versions"], version);
+    return osd
+        ? takeWhole(tenant, map, files, work, version === 1 && known(tenant).seen === 1)
+        : done(
+            tenant, `${map.name} is version ${version} of the map. `, ["pools", "Make a pool"],
+            ["compare", "Compare the versions"], version
+        );
 }
 
 function done(tenant, text, first, later, version, before = "") {
     const [view, words] = version > 1 ? later : first;
     // it gets the focus, so nothing says it a second time
     say("");
-    return { said: el("p", { class: "done" }, text, before, el("a", { href: `#/${tenant}/${view}` }, words)) };
+    return {
+        said: el("p", { class: "done" }, text, before, el("a", { href: `#/${tenant}/${view}` }, words))
+    };
 }
 
 // The cluster's own dumps, after its map: pools, states, exceptions, bytes, and how groups lie.
 async function takeWhole(tenant, map, files, work, fresh) {
-    const osd = osdIn(files), open = () => openTenant(tenant, work), taken = await takeOsd(tenant, osd, map, fresh, open, work);
+    const osd = osdIn(files), open = () => openTenant(tenant, work);
+    const taken = await takeOsd(tenant, osd, map, fresh, open, work);
+    if (map?.dump) keepMap(tenant, map.dump);
     takeRooms(tenant, files, osd);
     const lies = await takeLying(tenant, files, work);
-    return done(tenant, `The cluster is there: ${taken}${lies}. `, ["drain", "choose what is drained or fails"], null, 1, "Click on a host or rack in the picture, or ");
+    return done(
+        tenant, `The cluster is there: ${taken}${lies}. `, ["drain", "choose what is drained or fails"], null,
+        1, "Click on a host or rack in the picture, or "
+    );
 }
 
 // Compares how groups lie with what pgs.json says, or else osd-df.json, and gives it in words.
@@ -268,25 +375,38 @@ async function takeLying(tenant, { pgs, osdDf }, work) {
 // Bytes, and how groups lie, for a cluster that is there.
 async function takeFullness(tenant, files, work) {
     takeRooms(tenant, files);
-    const lies = await takeLying(tenant, files, work), names = [files.df, files.osdDf, files.pgs].filter(Boolean).map((it) => it.name);
+    const lies = await takeLying(tenant, files, work);
+    const names = [files.df, files.osdDf, files.pgs].filter(Boolean).map((it) => it.name);
     say("");
-    return { said: el("p", { class: "done" }, `${names.join(" and ")} ${names.length === 1 ? "is" : "are"} read${lies}.`) };
+    return {
+        said: el(
+            "p", { class: "done" }, `${names.join(" and ")} ${names.length === 1 ? "is" : "are"} read${lies}.`
+        )
+    };
 }
 
 // Files for a cluster that has a map. A map that comes alone is tried in a copy.
 async function takeMore(tenant, files, work) {
     if (files.saved) return { said: takeSaved(files.saved, cluster.summary) };
     if (files.states) return { said: await takeStates(cluster, files.states) };
-    const osd = osdIn(files), map = await mapIn(files, osd, (id) => cluster.map.byId.has(id), [...cluster.known.pools, ...cluster.known.left.map((it) => it.body).filter(Boolean)]);
+    const osd = osdIn(files);
+    const map = await mapIn(
+        files, osd, (id) => cluster.map.byId.has(id),
+        [...cluster.known.pools, ...cluster.known.left.map((it) => it.body).filter(Boolean)]
+    );
     if (map && osd) {
-        if (signature(readMap(map.text)) !== signature(readMap(cluster.texts.get(tenant)))) await importMap(tenant, map, (file) => take([file]));
+        if (signature(readMap(map.text)) !== signature(readMap(cluster.texts.get(tenant))))
+            await importMap(tenant, map, (file) => take([file]));
         return takeWhole(tenant, map, files, work, false);
     }
     if (osd) return takeWhole(tenant, null, files, work, false);
     if (!map) return takeFullness(tenant, files, work);
     if (known(tenant).pools.length || known(tenant).left.length) return { view: "compare", file: map };
     const version = await importMap(tenant, map, (file) => take([file]));
-    return done(tenant, `${map.name} is version ${version} of the map. `, ["pools", "Make a pool"], ["pools", "Make a pool"], version);
+    return done(
+        tenant, `${map.name} is version ${version} of the map. `, ["pools", "Make a pool"],
+        ["pools", "Make a pool"], version
+    );
 }
 
 // Files that were dropped or chosen: into the open cluster, or into a new one.
@@ -306,7 +426,9 @@ async function take(list, name) {
         const { tenant } = place();
         await working("Reading the files", async (work) => {
             await openTenant(tenant, work);
-            const { view = "map", ...what } = cluster.summary.versions ? await takeMore(tenant, files, work) : await takeFirst(tenant, files, work);
+            const { view = "map", ...what } = cluster.summary.versions
+                ? await takeMore(tenant, files, work)
+                : await takeFirst(tenant, files, work);
             if (place().view !== view || place().more) history.pushState(null, "", `#/${tenant}/${view}`);
             await refresh(what);
         });
@@ -317,8 +439,15 @@ async function take(list, name) {
             await refresh({ said: why.shown });
             return;
         }
-        const into = at("said") ?? at("main").firstChild.appendChild(el("div", { id: "said", tabindex: "-1" }));
-        into.replaceChildren(fault(why.message, why instanceof Taken && el("a", { href: `#/${name.value}/map` }, `open ${name.value}`)));
+        const into = at("said") ?? at("main").firstChild.appendChild(
+            el("div", { id: "said", tabindex: "-1" })
+        );
+        into.replaceChildren(
+            fault(
+                why.message,
+                why instanceof Taken && el("a", { href: `#/${name.value}/map` }, `open ${name.value}`)
+            )
+        );
         into.focus();
     }
 }

@@ -12,7 +12,8 @@ function laidOut(place, left, top, width, depth, found) {
         found.push({ place, left, top, width, height: DEVICES });
         return;
     }
-    const whole = place.items.reduce((sum, it) => sum + it.number, 0), share = (it) => (whole ? it.number / whole : 1 / place.items.length);
+    const whole = place.items.reduce((sum, it) => sum + it.number, 0);
+    const share = (it) => (whole ? it.number / whole : 1 / place.items.length);
     const devices = place.items.filter((it) => it.device), buckets = place.items.filter((it) => it.bucket);
     found.push({ place, left, top, width, height: STRIP, strip: true });
     const below = top + STRIP, gap = width / Math.max(1, place.items.length) > 6 ? GAP : 0;
@@ -34,18 +35,29 @@ function laidOut(place, left, top, width, depth, found) {
 }
 
 function depthOf(place) {
-    return place.items ? 1 + Math.max(0, ...place.items.filter((it) => it.bucket).map((it) => depthOf(it.bucket))) : 0;
+    return place.items
+        ? 1 + Math.max(0, ...place.items.filter((it) => it.bucket).map((it) => depthOf(it.bucket)))
+        : 0;
 }
 
 // The colours of now, light or dark, by their names in the page's style.
 function colours(node) {
     const style = getComputedStyle(node), of = (name) => style.getPropertyValue(`--${name}`).trim();
-    const share = d3.scale.linear().domain([50, 100, 150]).range([of("low"), of("even-ground"), of("high")]).clamp(true);
-    const between = { gain: d3.interpolateRgb(of("track"), of("gain")), loss: d3.interpolateRgb(of("track"), of("loss")), used: d3.interpolateRgb(of("track"), of("used")) };
+    const share = d3.scale.linear().domain([50, 100, 150]).range(
+        [of("low"), of("even-ground"), of("high")]
+    ).clamp(true);
+    const between = {
+        gain: d3.interpolateRgb(of("track"), of("gain")), loss: d3.interpolateRgb(of("track"), of("loss")),
+        used: d3.interpolateRgb(of("track"), of("used"))
+    };
     const mixed = (kind, part) => between[kind](0.3 + 0.7 * Math.min(1, part)), plain = of("track");
     return {
         text: of("text"), line: of("line"), strip: of("tint"),
-        of: (said) => (said === undefined || said === "same" ? plain : typeof said === "number" ? share(said) : mixed(...said)),
+        of: (said) => (
+            said === undefined || said === "same"
+                ? plain
+                : typeof said === "number" ? share(said) : mixed(...said)
+        ),
     };
 }
 
@@ -57,18 +69,32 @@ function devicesOf(place) {
 // much of it; `words` says them; `actions` gives what can be done with a place. `earlier` is a
 // picture in whose place it is put: it shows what that one does.
 export function picture(cluster, { values, colour, words, keys, actions, earlier }) {
-    const { map } = cluster, canvas = el("canvas", { role: "img" }), said = el("p", { class: "said" }), way = el("nav", { class: "way", "aria-label": "Where the picture is" }), doing = el("div", { class: "buttons" });
-    const into = el("select", { id: "into" }), top = map.roots.length === 1 ? map.roots[0] : { name: cluster.tenant, type: "", items: map.roots.map((it) => ({ bucket: it, number: it.items.reduce((sum, at) => sum + at.number, 0) })) };
+    const { map } = cluster, canvas = el("canvas", { role: "img" }), said = el("p", { class: "said" });
+    const way = el("nav", { class: "way", "aria-label": "Where the picture is" });
+    const doing = el("div", { class: "buttons" });
+    const into = el("select", { id: "into" });
+    const top = map.roots.length === 1
+        ? map.roots[0]
+        : {
+            name: cluster.tenant, type: "",
+            items: map.roots.map(
+                (it) => ({ bucket: it, number: it.items.reduce((sum, at) => sum + at.number, 0) })
+            )
+        };
     let path = [top, ...earlier?.path().slice(1) ?? []], shapes = [];
     const keysOf = Object.keys(values), sums = new Map();
-    const added = (place) => Object.fromEntries(keysOf.map((key) => [key, devicesOf(place).reduce((sum, it) => sum + (values[key](it.id) ?? 0), 0)]));
+    const added = (place) => Object.fromEntries(
+        keysOf.map((key) => [key, devicesOf(place).reduce((sum, it) => sum + (values[key](it.id) ?? 0), 0)])
+    );
     const sumsOf = (place) => sums.get(place) ?? sums.set(place, added(place)).get(place);
     const say = (place) => {
-        const host = !place.items && place.buckets[0], above = host ? ` in ${[host.name, pathOf(host)].filter(Boolean).join(", ")}` : "";
+        const host = !place.items && place.buckets[0];
+        const above = host ? ` in ${[host.name, pathOf(host)].filter(Boolean).join(", ")}` : "";
         return `${place.type ?? ""} ${place.name}${above}: ${words(sumsOf(place), place)}`.trim();
     };
     function draw() {
-        const here = path.at(-1), width = box.clientWidth, ratio = window.devicePixelRatio || 1, height = STRIP * depthOf(here) + DEVICES;
+        const here = path.at(-1), width = box.clientWidth, ratio = window.devicePixelRatio || 1;
+        const height = STRIP * depthOf(here) + DEVICES;
         if (!width) return;
         Object.assign(canvas, { width: width * ratio, height: height * ratio });
         shapes = [];
@@ -93,7 +119,9 @@ export function picture(cluster, { values, colour, words, keys, actions, earlier
     function write(to, it, ink, room) {
         // where the name has no room, that before its domain may have, or what tells it from others
         const short = it.place.name.split(".", 1)[0], last = it.place.items ? short : it.place.name;
-        const name = [it.place.name, last, /[A-Za-z]?\d+[a-z]?$/.exec(last)?.[0], /\d+[a-z]?$/.exec(last)?.[0]].find((text) => text && to.measureText(text).width <= it.width - 6);
+        const name = [
+            it.place.name, last, /[A-Za-z]?\d+[a-z]?$/.exec(last)?.[0], /\d+[a-z]?$/.exec(last)?.[0]
+        ].find((text) => text && to.measureText(text).width <= it.width - 6);
         if (!name) return;
         to.save();
         to.beginPath();
@@ -105,8 +133,12 @@ export function picture(cluster, { values, colour, words, keys, actions, earlier
     }
     // the place below the pointer, the innermost one
     function under(event) {
-        const { left, top: above } = canvas.getBoundingClientRect(), x = event.clientX - left, y = event.clientY - above;
-        return shapes.findLast((it) => x >= it.left && x < it.left + Math.max(it.width, 1) && y >= it.top && y < it.top + it.height);
+        const { left, top: above } = canvas.getBoundingClientRect(), x = event.clientX - left;
+        const y = event.clientY - above;
+        return shapes.findLast(
+            (it) => x >= it.left && x < it.left + Math.max(it.width, 1) && y >= it.top
+                && y < it.top + it.height
+        );
     }
     function go(place) {
         const at = path.indexOf(place);
@@ -115,8 +147,23 @@ export function picture(cluster, { values, colour, words, keys, actions, earlier
     }
     function show() {
         const here = path.at(-1), below = here.items ?? [];
-        way.replaceChildren(...path.map((it, at) => (at === path.length - 1 ? el("strong", {}, it.name) : button(it.name, () => go(it), { class: "link" }))).flatMap((it, at) => (at ? [" › ", it] : [it])));
-        options(into, [["", below.length ? "choose .." : "nothing below"], ...below.map((it, at) => [at, it.name ?? it.bucket.name])], "");
+        way.replaceChildren(
+            ...path.map(
+                (it, at) => (
+                    at === path.length - 1
+                        ? el("strong", {}, it.name)
+                        : button(it.name, () => go(it), { class: "link" })
+                )
+            ).flatMap((it, at) => (at ? [" › ", it] : [it]))
+        );
+        options(
+            into,
+            [
+                ["", below.length ? "choose .." : "nothing below"],
+                ...below.map((it, at) => [at, it.name ?? it.bucket.name])
+            ],
+            ""
+        );
         said.textContent = say(here);
         doing.replaceChildren(...(path.length > 1 ? actions?.(here) ?? [] : []));
         canvas.setAttribute("aria-label", `Picture of ${say(here)}`);
@@ -140,8 +187,21 @@ export function picture(cluster, { values, colour, words, keys, actions, earlier
     new ResizeObserver(draw).observe(box);
     matchMedia("(prefers-color-scheme: dark)").addEventListener("change", () => box.isConnected && draw());
     show();
-    const whole = el("div", { class: "card picture", id: "picture" }, el("div", { class: "bar-line" }, way, el("ul", { class: "legend" }, keys.map(([kind, text]) => el("li", {}, el("span", { class: `key ${kind}`, "aria-hidden": "true" }), text)))),
-        box, said, el("div", { class: "controls" }, labelled("Look into", into), doing));
+    const whole = el(
+        "div", { class: "card picture", id: "picture" },
+        el(
+            "div", { class: "bar-line" }, way,
+            el(
+                "ul", { class: "legend" },
+                keys.map(
+                    ([kind, text]) => el(
+                        "li", {}, el("span", { class: `key ${kind}`, "aria-hidden": "true" }), text
+                    )
+                )
+            )
+        ),
+        box, said, el("div", { class: "controls" }, labelled("Look into", into), doing)
+    );
     return Object.assign(whole, { path: () => path });
 }
 
@@ -151,7 +211,9 @@ function wayTo(from, place) {
     for (const it of from.items ?? []) {
         const below = it.device ?? it.bucket;
         if (below === place) return [below];
-        const rest = below.items && devicesOf(place).every((one) => devicesBelow(below).includes(one)) ? wayTo(below, place) : [];
+        const rest = below.items && devicesOf(place).every((one) => devicesBelow(below).includes(one))
+            ? wayTo(below, place)
+            : [];
         if (rest.length) return [below, ...rest];
     }
     return [];

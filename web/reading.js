@@ -1,6 +1,8 @@
 // Long replies, read by the worker, and the differences of long lists, found by it.
 
-const policy = globalThis.trustedTypes?.createPolicy("crushcalc", { createScriptURL: (it) => (it === "reports.js" ? it : "") });
+const policy = globalThis.trustedTypes?.createPolicy(
+    "crushcalc", { createScriptURL: (it) => (it === "reports.js" ? it : "") }
+);
 const worker = new Worker(policy ? policy.createScriptURL("reports.js") : "reports.js", { type: "module" });
 const waiting = new Map();
 let asked = 0;

@@ -6,7 +6,10 @@ import { forgetTenant } from "./known.js";
 import { dropSides } from "./sides.js";
 
 function question({ tenant, summary: { versions, pools, devices } }) {
-    const has = versions || pools || devices ? `${versions} versions of its map, ${pools} pools and ${devices} device states. They can't be had back.` : "no map, no pool and no device states.";
+    const has = versions || pools || devices
+        ? `${versions} versions of its map, ${pools} pools and ${devices} device states. They can't be `
+            + `had back.`
+        : "no map, no pool and no device states.";
     return `The service keeps under this name: ${has} Your Ceph cluster isn't touched.`;
 }
 
@@ -18,13 +21,25 @@ export function removal(cluster) {
         box.close();
         const reply = await ask(`Delete ${tenant}`, "DELETE", `/t/${tenant}`);
         if (reply.status === 200) await dropSides(tenant);
-        if (reply.status !== 200 && reply.error !== "no_tenant") return said.replaceChildren(fault(`${tenant} isn't deleted. `, meaning(reply.status, reply.error)));
-        for (const it of kept().filter((record) => record.tenant === tenant || record.note?.of === tenant)) forget(it);
+        if (reply.status !== 200 && reply.error !== "no_tenant")
+            return said.replaceChildren(
+                fault(`${tenant} isn't deleted. `, meaning(reply.status, reply.error))
+            );
+        for (const it of kept().filter((record) => record.tenant === tenant || record.note?.of === tenant))
+            forget(it);
         forgetTenant(tenant);
         location.hash = "#/";
         return undefined;
     }
-    const box = el("dialog", { "aria-labelledby": title.id }, title, el("p", {}, question(cluster)),
-        el("div", { class: "buttons" }, button("Keep it", () => box.close()), button("Delete it", remove, { class: "danger" })));
-    return el("div", { class: "remove" }, button(`Delete ${tenant}`, () => box.showModal(), { id: "remove" }), said, box);
+    const box = el(
+        "dialog", { "aria-labelledby": title.id }, title, el("p", {}, question(cluster)),
+        el(
+            "div", { class: "buttons" }, button("Keep it", () => box.close()),
+            button("Delete it", remove, { class: "danger" })
+        )
+    );
+    return el(
+        "div", { class: "remove" }, button(`Delete ${tenant}`, () => box.showModal(), { id: "remove" }), said,
+        box
+    );
 }

@@ -25,7 +25,9 @@ export function connect(asks, notes) {
 }
 
 export function hex(bytes) {
-    return Array.from(crypto.getRandomValues(new Uint8Array(bytes)), (it) => it.toString(16).padStart(2, "0")).join("");
+    return Array.from(
+        crypto.getRandomValues(new Uint8Array(bytes)), (it) => it.toString(16).padStart(2, "0")
+    ).join("");
 }
 
 // Those that wait for their turn, the first one first.
@@ -110,7 +112,9 @@ async function answer(what, method, path, body, changes, signal) {
 // A request that changes nothing, or one that may be repeated as it is (PUT, DELETE). `signal` ends
 // the wait for its reply; `again` is whether it was sent more than once.
 export async function ask(what, method, path, fields, signal) {
-    const { status, bytes, again } = await answer(what, method, path, fields && JSON.stringify(fields), false, signal);
+    const { status, bytes, again } = await answer(
+        what, method, path, fields && JSON.stringify(fields), false, signal
+    );
     return { ...said(bytes), status, again };
 }
 
@@ -127,11 +131,15 @@ export function read(bytes) {
 // it after a reload.
 export function change(what, tenant, route, fields, note) {
     const number = hex(16);
-    const record = { number, what, tenant, route, path: `/t/${tenant}/${route}`, body: JSON.stringify({ request: number, ...fields }), note };
+    const record = {
+        number, what, tenant, route, path: `/t/${tenant}/${route}`,
+        body: JSON.stringify({ request: number, ...fields }), note
+    };
     try {
         localStorage.setItem(PENDING + number, JSON.stringify(record));
     } catch {
-        throw new NotKept("The browser has no room to keep this request until it is answered, so it isn't sent.");
+        throw new NotKept("The browser has no room to keep this request until it is answered, so it isn't "
+            + "sent.");
     }
     return finish(record);
 }
@@ -156,5 +164,7 @@ export function forget(record) {
 
 // The requests that were sent, or were about to be, and have no answer yet.
 export function kept() {
-    return Object.keys(localStorage).filter((it) => it.startsWith(PENDING)).map((it) => JSON.parse(localStorage.getItem(it)));
+    return Object.keys(localStorage).filter((it) => it.startsWith(PENDING)).map(
+        (it) => JSON.parse(localStorage.getItem(it))
+    );
 }

@@ -26,7 +26,8 @@ export function hash2(one, other) {
 
 // The number by which a group is placed (Ceph's stable_mod by pgp_num).
 export function seedOf(pool, group) {
-    const mask = 2 ** Math.ceil(Math.log2(pool.pgp_num)) - 1, place = (group & mask) < pool.pgp_num ? group & mask : group & (mask >> 1);
+    const mask = 2 ** Math.ceil(Math.log2(pool.pgp_num)) - 1;
+    const place = (group & mask) < pool.pgp_num ? group & mask : group & (mask >> 1);
     return pool.hashpspool ? hash2(place, pool.id) : (place + pool.id) >>> 0;
 }
 
@@ -35,17 +36,24 @@ export function seedOf(pool, group) {
 export function led(pool, group, up, affinity, none = null) {
     const first = up.find((it) => it !== none) ?? none;
     if (!up.some((it) => it !== none && (affinity[it] ?? ONE) !== ONE)) return { up, primary: first };
-    const seed = seedOf(pool, group), leads = (it) => (affinity[it] ?? ONE) >= ONE || hash2(seed, it) >>> 16 < affinity[it];
+    const seed = seedOf(pool, group);
+    const leads = (it) => (affinity[it] ?? ONE) >= ONE || hash2(seed, it) >>> 16 < affinity[it];
     let place = up.findIndex((it) => it !== none && leads(it));
     if (place < 0) place = up.findIndex((it) => it !== none);
     const primary = up[place];
-    return { up: pool.kind === "replicated" && place > 0 ? [primary, ...up.slice(0, place), ...up.slice(place + 1)] : up, primary };
+    return {
+        up: pool.kind === "replicated" && place > 0
+            ? [primary, ...up.slice(0, place), ...up.slice(place + 1)]
+            : up,
+        primary
+    };
 }
 
 // The list that pairs of devices make of one.
 export function paired(list, pairs, mayBe) {
     const items = [...list];
-    for (const [from, to] of pairs) if (items.includes(from) && !items.includes(to) && mayBe(to)) items[items.indexOf(from)] = to;
+    for (const [from, to] of pairs)
+        if (items.includes(from) && !items.includes(to) && mayBe(to)) items[items.indexOf(from)] = to;
     return items;
 }
 
@@ -59,13 +67,16 @@ export function isIdle(whole, mayBe) {
 function itemsOf(pool, raw, { list, pairs = [], primary }, mayBe) {
     if (list && isIdle(list, mayBe)) return [...raw];
     const items = paired(list ?? raw, pairs, mayBe), place = items.indexOf(primary);
-    if (place >= 0 && pool.kind === "replicated" && mayBe(primary)) [items[0], items[place]] = [primary, items[0]];
+    if (place >= 0 && pool.kind === "replicated" && mayBe(primary))
+        [items[0], items[place]] = [primary, items[0]];
     return items;
 }
 
 // The up list of a group that has exceptions, before affinity counts. `stateOf` gives a device's
 // state.
 export function settledUp(pool, raw, exceptions, stateOf) {
-    const works = itemsOf(pool, raw, exceptions, (id) => stateOf(id).reweight > 0).map((id) => (id !== null && stateOf(id).up ? id : null));
+    const works = itemsOf(
+        pool, raw, exceptions, (id) => stateOf(id).reweight > 0
+    ).map((id) => (id !== null && stateOf(id).up ? id : null));
     return pool.kind === "erasure" ? works : works.filter((id) => id !== null);
 }

@@ -56,9 +56,12 @@ function blockParts(map, item, states) {
 // Of each device that a pool's rule can take, its part of the pool's copies.
 export function partsOf(map, pool, states) {
     const rule = map.rules.find((it) => it.id === pool.rule), found = new Map();
-    const blocks = blocksOf(rule ?? { steps: [] }, pool.size).map(([item, places]) => [blockParts(map, item, states), places]).filter(([parts, places]) => parts.size && places);
+    const blocks = blocksOf(rule ?? { steps: [] }, pool.size).map(
+        ([item, places]) => [blockParts(map, item, states), places]
+    ).filter(([parts, places]) => parts.size && places);
     const whole = blocks.reduce((sum, it) => sum + it[1], 0);
-    for (const [parts, places] of blocks) for (const [id, part] of parts) found.set(id, (found.get(id) ?? 0) + part * places / whole);
+    for (const [parts, places] of blocks)
+        for (const [id, part] of parts) found.set(id, (found.get(id) ?? 0) + part * places / whole);
     return found;
 }
 
@@ -68,7 +71,8 @@ export function expectedOf(map, pools, states, copies) {
     const found = new Map();
     for (const pool of pools) {
         const whole = copies(pool);
-        for (const [id, part] of partsOf(map, pool, states)) found.set(id, (found.get(id) ?? 0) + part * whole);
+        for (const [id, part] of partsOf(map, pool, states))
+            found.set(id, (found.get(id) ?? 0) + part * whole);
     }
     return found;
 }

@@ -29,7 +29,9 @@ export function noteFor(tenant, at, more = {}) {
 
 // Whether the service has another text of a cluster, which another browser may have made.
 export async function hasSides(tenant) {
-    return (await ask(`Look for other texts of ${tenant}`, "GET", `/t/${sideName(tenant, 1)}`)).status === 200;
+    return (
+        await ask(`Look for other texts of ${tenant}`, "GET", `/t/${sideName(tenant, 1)}`)
+    ).status === 200;
 }
 
 // Drops the tenants of other texts, also those that another browser made.
@@ -48,10 +50,21 @@ export async function makeSides(tenant, { texts, places, shown }, fresh) {
     for (let place = 1; place < texts.length; place += 1) {
         const name = sideName(tenant, place), words = `Make the tenant of text ${place + 1}`;
         good(await ask(words, "PUT", `/t/${name}`), words);
-        good(await change(`Import text ${place + 1} of the map`, name, "maps", { text: texts[place] }, { of: tenant }), `Text ${place + 1} of the map`);
+        good(
+            await change(
+                `Import text ${place + 1} of the map`, name, "maps", { text: texts[place] }, { of: tenant }
+            ),
+            `Text ${place + 1} of the map`
+        );
     }
     // a pool that stays in the cluster's own tenant has no place of its own
-    return note(tenant, { texts: texts.length, shown, sides: Object.fromEntries(Object.entries(places).filter(([, place]) => place)) });
+    return note(
+        tenant,
+        {
+            texts: texts.length, shown,
+            sides: Object.fromEntries(Object.entries(places).filter(([, place]) => place))
+        }
+    );
 }
 
 // Sets states of devices in each tenant that has them; `texts` are the tenants' texts by name.

@@ -1,81 +1,22 @@
-// Files that are dropped or chosen: a cluster's own dumps, the text of a map, a CSV of states, what
-// another browser saved. Each is read, and what it says is set on the service.
+// What files say is set on the service: a cluster's own dumps, the text of a map, a CSV of states,
+// what another browser saved.
 import { change } from "./service.js";
 import { meaning } from "./codes.js";
 import { computedPools } from "./computable.js";
 import { PAIRS, good, poolBody } from "./copies.js";
-import { Fault, RJENKINS, WRITES, isOfGroups, kindOf, readCrush, readDf, readOsd, readOsdDf } from "./dump.js";
+import { Fault, RJENKINS, readDf, readOsdDf } from "./dump.js";
 import { el, fault } from "./dom.js";
 import { SAID, known, note, statesOf as statesIn } from "./known.js";
-import { marked, textsOf } from "./map_texts.js";
 import { devicesBelow } from "./map.js";
 import { reachOf } from "./reach.js";
-import { readLong } from "./reading.js";
 import { faultOf } from "./refused.js";
 import { keyOf, rowsOf } from "./sets.js";
 import { hasSides, makeSides, noteFor, setStates, tenantWith } from "./sides.js";
 import { count, many, some } from "./words.js";
 
-const LONGEST_FILE = 16_777_216, LONGEST_BODY = 5_242_880, LONGEST_GROUPS = 268_435_456, START = 400;
+const LONGEST_BODY = 5_242_880;
 
-// The text of a file as it is, its byte order mark too.
-async function textIn(file) {
-    if (file.size > LONGEST_FILE) throw new Fault(`${file.name} isn't read: it is longer than ${many(LONGEST_FILE, "byte")}.`);
-    return new TextDecoder("utf-8", { ignoreBOM: true }).decode(await file.arrayBuffer());
-}
-
-// A dump of groups, which the worker reads.
-async function groupsIn(file) {
-    if (file.size > LONGEST_GROUPS) throw new Fault(`${file.name} isn't read: it is longer than ${many(LONGEST_GROUPS, "byte")}.`);
-    const read = await readLong("pgs", [await file.arrayBuffer()]);
-    if (!read) throw new Fault(`${file.name}: it isn't what '${WRITES.pgs}' writes.`);
-    return { name: file.name, kind: "pgs", read: read.pools };
-}
-
-async function fileIn(file) {
-    if (isOfGroups(await file.slice(0, START).text())) return groupsIn(file);
-    const text = await textIn(file), { kind = /^\ufeff?"?id"?,/.test(text) ? "states" : "text", whole } = kindOf(text);
-    if (kind === "other") throw new Fault(`${file.name} is none of what 'crushplan fetch' writes (${Object.values(WRITES).join(", ")}), and no map text.`);
-    return { name: file.name, kind, text, whole };
-}
-
-// What the files are: of each kind one. A folder that `crushplan fetch` wrote has the map twice.
-export async function filesOf(list) {
-    const found = {};
-    for (const file of list) {
-        const it = await fileIn(file);
-        if (found[it.kind]) throw new Fault(`${it.name} and ${found[it.kind].name} are of one kind: drop one of them.`);
-        found[it.kind] = it;
-    }
-    if (found.crush && found.text) delete found.text;
-    return found;
-}
-
-// What osd.json and crush.json say, where they are among the files. Each is read once. `there` says
-// whether the cluster has a device, where no osd.json does.
-export function osdIn({ osd }) {
-    if (osd) osd.read ??= readOsd(osd.whole, osd.name);
-    return osd?.read;
-}
-
-export function crushIn(files, there) {
-    const { crush } = files, osd = osdIn(files);
-    if (crush) crush.read ??= readCrush(crush.whole, crush.name, osd ? (id) => osd.states.has(id) : there);
-    return crush?.read;
-}
-
-// The map of the files: its texts for the service, the first one alone where it is no dump, and the
-// dump where it is one. `pools` are those that it is for, where no osd.json says them: of those
-// that can't be computed `left` says why.
-export async function mapIn(files, osd, there, pools = []) {
-    const dump = crushIn(files, there);
-    if (!dump) return files.text && { name: files.text.name, ...marked(files.text.text), places: {}, shown: 1, dump: null, get texts() { return [this.text]; } };
-    const { kept, left } = computedPools(osd?.pools ?? pools, (id) => dump.rules.get(id), dump.file, dump);
-    const written = await textsOf(dump, kept, osd ? [...osd.states.keys()].filter((id) => !dump.devices.has(id)) : []);
-    return { name: files.crush.name, ...written, text: written.texts[0], more: 0, dump, left };
-}
-
-// Imports a map as the next version. Gives its number, or throws what is to be shown.
+// What is to be shown of a map that isn't imported.
 export class Refused extends Error {
     constructor(shown) {
         super("refused");
@@ -83,13 +24,27 @@ export class Refused extends Error {
     }
 }
 
-// Imports a map as the next version; its other texts go to tenants of their own.
+// Whether a map has weights with all their decimals.
+export function isExact({ dump }) {
+    return Boolean(dump && !dump.rounded);
+}
+
+// Imports a map as the next version, and gives its number; its other texts go to tenants of their
+// own.
 export async function importMap(tenant, map, take) {
     const { name, text } = map;
-    for (const it of map.texts) if (it.length > LONGEST_BODY) throw new Fault(`${name} isn't sent: it is longer than the 5,242,880 bytes that a request may have.`);
+    for (const it of map.texts)
+        if (it.length > LONGEST_BODY)
+            throw new Fault(`${name} isn't sent: it is longer than the 5,242,880 bytes that a request may `
+                + `have.`);
     const reply = await change(`Import ${name}`, tenant, "maps", { text }, { file: name });
+    if (reply.status === 201) note(tenant, { exact: isExact(map) });
     if (reply.status === 201) return reply.version;
-    throw new Refused(reply.error === "map_refused" ? faultOf({ ...map, reply }, take) : fault(`${name} isn't imported. `, meaning(reply.status, reply.error)));
+    throw new Refused(
+        reply.error === "map_refused"
+            ? faultOf({ ...map, reply }, take)
+            : fault(`${name} isn't imported. `, meaning(reply.status, reply.error))
+    );
 }
 
 // ---- pools, states and exceptions of osd.json
@@ -97,17 +52,37 @@ export async function importMap(tenant, map, take) {
 // What the dump has that placements here don't have, each with the pools, groups and devices that
 // it touches.
 function oddities(osd, dump, pools) {
-    const lines = [], groups = (all) => some(all.map(([pool, group]) => `${pool}.${group.toString(16)}`)), said = (all, has, what) => all.length && lines.push(`${many(all.length, "group")} with ${has}: ${groups(all)}; ${what}`);
+    const lines = [], groups = (all) => some(all.map(([pool, group]) => `${pool}.${group.toString(16)}`));
+    const said = (all, has, what) => all.length
+        && lines.push(`${many(all.length, "group")} with ${has}: ${groups(all)}; ${what}`);
     for (const it of osd.pools) {
-        if (it.splits) lines.push(`pool ${it.name} is being split or merged (pg_num ${it.pg_num} on its way to ${it.splits[0]}, pgp_num ${it.pgp_num} to ${it.splits[1]}): it is computed as it is now, and its groups move by themselves`);
-        if (it.hash !== RJENKINS) lines.push(`pool ${it.name} has another object hash than rjenkins: where its groups lie is computed, where its objects lie isn't`);
-        if (it.stretched) lines.push(`pool ${it.name} is stretched over sites: where its groups lie is computed, and whether the I/O of a group stops isn't, since it also stops where a site has no copy`);
+        if (it.splits)
+            lines.push(`pool ${it.name} is being split or merged (pg_num ${it.pg_num} on its way to `
+                + `${it.splits[0]}, pgp_num ${it.pgp_num} to ${it.splits[1]}): it is computed as it is now, `
+                + `and its groups move by themselves`);
+        if (it.hash !== RJENKINS)
+            lines.push(`pool ${it.name} has another object hash than rjenkins: where its groups lie is `
+                + `computed, where its objects lie isn't`);
+        if (it.stretched)
+            lines.push(`pool ${it.name} is stretched over sites: where its groups lie is computed, and `
+                + `whether the I/O of a group stops isn't, since it also stops where a site has no copy`);
     }
-    said(osd.temporary.lists, "a temporary list (pg_temp)", "what is said is where they lie once that is over");
-    said(osd.temporary.primaries, "a temporary primary (primary_temp)", "what is said is where they lie once that is over");
+    said(
+        osd.temporary.lists, "a temporary list (pg_temp)", "what is said is where they lie once that is over"
+    );
+    said(
+        osd.temporary.primaries, "a temporary primary (primary_temp)",
+        "what is said is where they lie once that is over"
+    );
     for (const [key, own] of dump?.weightSets ?? []) {
-        const in_use = pools.filter((it) => keyOf(dump, it.id) === key && rowsOf(dump, key, reachOf(dump, dump.rules.get(it.rule)).buckets).size);
-        if (own.rounded && in_use.length) lines.push(`${dump.file} has rounded weights of 256 and more in the weight set choose_args ${key}: a few groups of ${some(in_use.map((it) => it.name))} may lie otherwise`);
+        const in_use = pools.filter(
+            (it) => keyOf(dump, it.id) === key && rowsOf(
+                dump, key, reachOf(dump, dump.rules.get(it.rule)).buckets
+            ).size
+        );
+        if (own.rounded && in_use.length)
+            lines.push(`${dump.file} has rounded weights of 256 and more in the weight set choose_args `
+                + `${key}: a few groups of ${some(in_use.map((it) => it.name))} may lie otherwise`);
     }
     return lines;
 }
@@ -120,8 +95,10 @@ function statesOf(osd, map) {
 
 // Sets states in the cluster's own tenant, and in those of its other texts, which are new.
 async function setAllStates(cluster, states, { whole: isNew }) {
-    const { tenant, map, texts } = cluster, wanted = [...states].filter(([id]) => map.byId.has(id)).map(([id, it]) => ({ id, ...it }));
-    const whole = (it) => it.reweight === 65536 && it.up, changed = wanted.filter((it) => !whole(it)), [own, ...others] = texts;
+    const { tenant, map, texts } = cluster;
+    const wanted = [...states].filter(([id]) => map.byId.has(id)).map(([id, it]) => ({ id, ...it }));
+    const whole = (it) => it.reweight === 65536 && it.up, changed = wanted.filter((it) => !whole(it));
+    const [own, ...others] = texts;
     good(await setStates(tenant, [own], isNew ? changed : wanted), "The states of devices");
     good(await setStates(tenant, others, changed), "The states of devices");
     return changed.length;
@@ -129,10 +106,26 @@ async function setAllStates(cluster, states, { whole: isNew }) {
 
 async function makePool(tenant, pool) {
     const at = tenantWith(tenant, known(tenant), pool), noted = (more) => noteFor(tenant, at, more);
-    const body = poolBody(pool), send = () => change(`Make the pool ${pool.name}`, at, "pools", body, noted({ min_size: pool.min_size })), same = (it) => JSON.stringify(poolBody(it)) === JSON.stringify(body);
+    const body = poolBody(pool);
+    const send = () => change(
+        `Make the pool ${pool.name}`, at, "pools", body, noted({ min_size: pool.min_size })
+    );
+    const same = (it) => JSON.stringify(poolBody(it)) === JSON.stringify(body);
     const there = known(tenant).pools.find((it) => it.id === pool.id);
-    if (there && same(there)) return note(tenant, { pools: known(tenant).pools.map((it) => (it.id === pool.id ? { ...it, min_size: pool.min_size } : it)) });
-    if (there) good(await change(`Remove the pool ${there.name}`, at, "pools/remove", { id: pool.id }, noted()), `The pool ${there.name}`);
+    if (there && same(there))
+        return note(
+            tenant,
+            {
+                pools: known(tenant).pools.map(
+                    (it) => (it.id === pool.id ? { ...it, min_size: pool.min_size } : it)
+                )
+            }
+        );
+    if (there)
+        good(
+            await change(`Remove the pool ${there.name}`, at, "pools/remove", { id: pool.id }, noted()),
+            `The pool ${there.name}`
+        );
     let reply = await send();
     if (reply.error === "exists" && !there) {
         await change(`Remove the pool ${pool.name}`, at, "pools/remove", { id: pool.id }, noted());
@@ -143,41 +136,76 @@ async function makePool(tenant, pool) {
 
 // The pairs of a pool's upmap items, of which those count whose devices the map has.
 function pairsOf(osd, pool, map) {
-    return osd.upmaps.filter(({ at: [id, group] }) => id === pool.id && group < pool.pg_num).flatMap(({ at: [, group], pairs }) => pairs.filter(([from, to]) => from !== to && map.byId.has(from) && map.byId.has(to)).map(([from, to]) => ({ group, from, to })));
+    return osd.upmaps.filter(({ at: [id, group] }) => id === pool.id && group < pool.pg_num).flatMap(
+        ({ at: [, group], pairs }) => pairs.filter(
+            ([from, to]) => from !== to && map.byId.has(from) && map.byId.has(to)
+        ).map(([from, to]) => ({ group, from, to }))
+    );
 }
 
 // The devices that a pool which isn't computed may have: those below what its rule takes; none
 // where that isn't known, and then it may have any.
 function reached({ rule }, map, dump) {
     if (dump) return dump.rules.has(rule) ? [...reachOf(dump, dump.rules.get(rule)).devices] : [];
-    const takes = map.rules.find((it) => it.id === rule)?.steps.filter(([op]) => op === "take").map((it) => it[1]) ?? [];
-    return takes.flatMap((it) => (map.all.has(it) ? devicesBelow(map.all.get(it)).map((one) => one.id) : [map.devices.get(it)?.id].filter((id) => id !== undefined)));
+    const takes = map.rules.find((it) => it.id === rule)
+        ?.steps.filter(([op]) => op === "take")
+        .map((it) => it[1])
+        ?? [];
+    return takes.flatMap(
+        (it) => (
+            map.all.has(it)
+                ? devicesBelow(map.all.get(it)).map((one) => one.id)
+                : [map.devices.get(it)?.id].filter((id) => id !== undefined)
+        )
+    );
 }
 
 // The devices that a flag keeps in: of a device, a bucket, or a class by its name.
 function flagged(name, map, dump) {
     const class_ = /^the class (.*)$/.exec(name)?.[1];
-    if (class_ !== undefined) return [...dump?.classes ?? []].filter(([, it]) => it === class_).map(([id]) => id);
-    return map.buckets.has(name) ? devicesBelow(map.buckets.get(name)).map((it) => it.id) : map.devices.has(name) ? [map.devices.get(name).id] : [];
+    if (class_ !== undefined)
+        return [...dump?.classes ?? []].filter(([, it]) => it === class_).map(([id]) => id);
+    return map.buckets.has(name)
+        ? devicesBelow(map.buckets.get(name)).map((it) => it.id)
+        : map.devices.has(name) ? [map.devices.get(name).id] : [];
 }
 
 // What of a dump the service doesn't know, by pool; of the pools in `left` it knows nothing.
 function exceptionsOf(osd, pools, pairs, left) {
-    const by = (list, make) => Object.fromEntries(pools.map((pool) => [pool.id, list.filter(({ at }) => at[0] === pool.id && at[1] < pool.pg_num).map(make)]).filter(([, own]) => own.length));
-    const primaries = Object.entries(by(osd.primaries, ({ at, device }) => [at[1], device])).map(([id, own]) => [id, Object.fromEntries(own)]), batched = pools.filter((it) => left.has(it) || pairs.get(it).length > PAIRS);
+    const by = (list, make) => Object.fromEntries(
+        pools.map(
+            (pool) => [pool.id, list.filter(({ at }) => at[0] === pool.id && at[1] < pool.pg_num).map(make)]
+        ).filter(([, own]) => own.length)
+    );
+    const primaries = Object.entries(
+        by(osd.primaries, ({ at, device }) => [at[1], device])
+    ).map(([id, own]) => [id, Object.fromEntries(own)]);
+    const batched = pools.filter((it) => left.has(it) || pairs.get(it).length > PAIRS);
     return {
-        whole: by(osd.lists, ({ at, devices }) => ({ group: at[1], devices })), primaries: Object.fromEntries(primaries), affinity: osd.affinity,
-        pairs: Object.fromEntries(batched.map((it) => [it.id, pairs.get(it).map(({ group, from, to }) => [group, from, to])])), moving: by(osd.temporary.lists.map((at) => ({ at })), ({ at }) => at[1]),
+        whole: by(osd.lists, ({ at, devices }) => ({ group: at[1], devices })),
+        primaries: Object.fromEntries(primaries), affinity: osd.affinity,
+        pairs: Object.fromEntries(
+            batched.map((it) => [it.id, pairs.get(it).map(({ group, from, to }) => [group, from, to])])
+        ),
+        moving: by(osd.temporary.lists.map((at) => ({ at })), ({ at }) => at[1]),
     };
 }
 
 // Takes away what stands of pools that the dump lacks, or that get another text.
 async function removeOthers(tenant, before, pools, work) {
-    for (const it of known(tenant).pools.filter((one) => before[one.id] || known(tenant).sides[one.id] || !pools.some((pool) => pool.id === one.id))) {
+    for (
+        const it of known(tenant).pools.filter(
+            (one) => before[one.id] || known(tenant).sides[one.id]
+                || !pools.some((pool) => pool.id === one.id)
+        )
+    ) {
         work.step(`Removing the pool ${it.name}`);
         // that of another text went with its tenant
         if (before[it.id]) note(tenant, { pools: known(tenant).pools.filter((one) => one.id !== it.id) });
-        else good(await change(`Remove the pool ${it.name}`, tenant, "pools/remove", { id: it.id }, {}), `The pool ${it.name}`);
+        else good(
+            await change(`Remove the pool ${it.name}`, tenant, "pools/remove", { id: it.id }, {}),
+            `The pool ${it.name}`
+        );
     }
 }
 
@@ -185,21 +213,40 @@ async function removeOthers(tenant, before, pools, work) {
 // texts, or null where osd.json came alone. `open` opens the cluster anew.
 export async function takeOsd(tenant, osd, map, fresh, open, work) {
     const before = known(tenant).sides;
-    if (!map && (known(tenant).texts > 1 || await hasSides(tenant))) throw new Fault("This cluster's map has several texts: drop crush.json too.");
+    if (!map && (known(tenant).texts > 1 || await hasSides(tenant)))
+        throw new Fault("This cluster's map has several texts: drop crush.json too.");
     if (map) {
         work.step("Making the other texts of the map");
         await makeSides(tenant, map, fresh);
     }
     const cluster = await open(), on = cluster.map, dump = map?.dump;
-    const rules = new Map(on.rules.map((it) => [it.id, it])), { kept: pools, left: faults } = dump ? computedPools(osd.pools, (id) => dump.rules.get(id), dump.file, dump) : computedPools(osd.pools, (id) => rules.get(id), "the map", null);
+    const rules = new Map(on.rules.map((it) => [it.id, it]));
+    const { kept: pools, left: faults } = dump
+        ? computedPools(osd.pools, (id) => dump.rules.get(id), dump.file, dump)
+        : computedPools(osd.pools, (id) => rules.get(id), "the map", null);
     const pairs = new Map(pools.map((it) => [it, pairsOf(osd, it, on)]));
-    const left = [...faults].map(([it, why]) => ({ pool: it.id, name: it.name, body: { ...poolBody(it), min_size: it.min_size }, devices: reached(it, on, dump), text: `pool ${it.name} (${it.id}) isn't computed: ${why}` })), lines = [...left.map((it) => it.text), ...oddities(osd, dump, pools)];
+    const left = [...faults].map(
+        ([it, why]) => (
+            {
+                pool: it.id, name: it.name, body: { ...poolBody(it), min_size: it.min_size },
+                devices: reached(it, on, dump), text: `pool ${it.name} (${it.id}) isn't computed: ${why}`
+            }
+        )
+    );
+    const lines = [...left.map((it) => it.text), ...oddities(osd, dump, pools)];
     work.step("Setting the states of devices");
-    const states = await setAllStates(cluster, statesOf(osd, on), { whole: fresh }), lacking = [...osd.states.keys()].filter((id) => !on.byId.has(id));
-    if (lacking.length) lines.push(`${osd.file} has devices that the map lacks; they hold nothing: ${some(lacking.map((it) => `osd.${it}`))}`);
+    const states = await setAllStates(cluster, statesOf(osd, on), { whole: fresh });
+    const lacking = [...osd.states.keys()].filter((id) => !on.byId.has(id));
+    if (lacking.length)
+        lines.push(`${osd.file} has devices that the map lacks; they hold nothing: `
+            + `${some(lacking.map((it) => `osd.${it}`))}`);
     const missing = [...on.devices.values()].filter((it) => it.buckets.length && !osd.states.has(it.id));
-    if (missing.length) lines.push(`the map has devices that ${osd.file} lacks; they count as out and down: ${some(missing.map((it) => `osd.${it.id}`))}`);
-    if (map && !dump) lines.push(`${map.name} has weights that 'crushtool -d' rounded to three decimals; crush.json ('ceph osd crush dump -f json') has exact ones`);
+    if (missing.length)
+        lines.push(`the map has devices that ${osd.file} lacks; they count as out and down: `
+            + `${some(missing.map((it) => `osd.${it.id}`))}`);
+    if (map && !isExact(map))
+        lines.push(`${map.name} has weights that 'crushtool -d' rounded to three decimals; crush.json `
+            + `('ceph osd crush dump -f json') has exact ones`);
     // the tenant has the pools of the dump then, and no other
     await removeOthers(tenant, map ? before : {}, pools, work);
     // a pool that isn't computed may be on another map, where its pairs count
@@ -209,15 +256,28 @@ export async function takeOsd(tenant, osd, map, fresh, open, work) {
     for (const pool of pools) {
         work.step(`Making the pool ${pool.name}`);
         await makePool(tenant, pool);
-        const all = pairs.get(pool), sent = own.pairs[pool.id] ? [] : all, at = tenantWith(tenant, known(tenant), pool);
-        if (sent.length || !fresh) good(await change(`Set the upmap items of ${pool.name}`, at, "pools/exceptions", { id: pool.id, exceptions: sent }, noteFor(tenant, at)), `The upmap items of ${pool.name}`);
+        const all = pairs.get(pool), sent = own.pairs[pool.id] ? [] : all;
+        const at = tenantWith(tenant, known(tenant), pool);
+        if (sent.length || !fresh)
+            good(
+                await change(
+                    `Set the upmap items of ${pool.name}`, at, "pools/exceptions",
+                    { id: pool.id, exceptions: sent }, noteFor(tenant, at)
+                ),
+                `The upmap items of ${pool.name}`
+            );
         set += all.length;
     }
+    if (map) note(tenant, { exact: isExact(map) });
     note(tenant, {
-        notes: lines, left, ...own, ratios: osd.ratios, stretched: pools.filter((it) => it.stretched).map((it) => it.id), splits: pools.filter((it) => it.splits).map((it) => it.id), flags: osd.flags,
-        noout: osd.noout.map((name) => [name, flagged(name, on, dump)]), bytes: {}, rooms: {}, lying: null, doubt: null,
+        notes: lines, left, ...own, ratios: osd.ratios,
+        stretched: pools.filter((it) => it.stretched).map((it) => it.id),
+        splits: pools.filter((it) => it.splits).map((it) => it.id), flags: osd.flags,
+        noout: osd.noout.map((name) => [name, flagged(name, on, dump)]), bytes: {}, rooms: {}, lying: null,
+        doubt: null,
     });
-    return `${pools.length < osd.pools.length ? `${count(pools.length)} of ` : ""}${many(osd.pools.length, "pool")}, ${many(states, "device")} with a reweight or down, ${many(set, "upmap item")}`;
+    return `${pools.length < osd.pools.length ? `${count(pools.length)} of ` : ""}${many(osd.pools.length, "pool")}, `
+        + `${many(states, "device")} with a reweight or down, ${many(set, "upmap item")}`;
 }
 
 // ---- the other files
@@ -229,29 +289,52 @@ export function takeRooms(tenant, { df, osdDf }, osd) {
     if (osdDf) {
         const { rooms, odd } = readOsdDf(osdDf.whole, osdDf.name);
         fields.rooms = rooms;
-        if (odd.length) notes.push(`${osdDf.name} has no number of how full ${some(odd)} ${odd.length === 1 ? "is" : "are"} (nan)`);
+        if (odd.length)
+            notes.push(`${osdDf.name} has no number of how full ${some(odd)} `
+                + `${odd.length === 1 ? "is" : "are"} (nan)`);
     }
     if (df || osdDf) note(tenant, { ...fields, notes: [...known(tenant).notes, ...notes] });
 }
 
 export async function takeStates(cluster, { name, text }) {
-    const { tenant } = cluster, reply = await change(`Set the states of ${name}`, tenant, "devices/csv", { csv: text }, {});
-    if (reply.status !== 200) return fault(`The states of ${name} aren't set. `, meaning(reply.status, reply.error));
-    good(await setStates(tenant, [...cluster.texts].slice(1), statesIn(text).map(([id, it]) => ({ id, ...it }))), "The states of devices");
+    const { tenant } = cluster;
+    const reply = await change(`Set the states of ${name}`, tenant, "devices/csv", { csv: text }, {});
+    if (reply.status !== 200)
+        return fault(`The states of ${name} aren't set. `, meaning(reply.status, reply.error));
+    good(
+        await setStates(
+            tenant, [...cluster.texts].slice(1), statesIn(text).map(([id, it]) => ({ id, ...it }))
+        ),
+        "The states of devices"
+    );
     return el("p", { class: "done" }, `The states of ${name} are set: ${reply.devices} devices.`);
 }
 
 // What this browser knows of a tenant, as a file for another one.
 export function savedOf(tenant) {
     const it = known(tenant), fields = ["seen", "pools", "states", "files", ...SAID];
-    return JSON.stringify({ crushcalc: 1, tenant, ...Object.fromEntries(fields.map((name) => [name, it[name]])) }, null, 1);
+    return JSON.stringify(
+        { crushcalc: 1, tenant, ...Object.fromEntries(fields.map((name) => [name, it[name]])) }, null, 1
+    );
 }
 
 // Takes over what another browser knew: it is confirmed where the cluster wasn't changed since.
 export function takeSaved({ name, text }, summary) {
     const it = JSON.parse(text);
-    if (it.crushcalc !== 1 || !Array.isArray(it.pools) || typeof it.states !== "object") throw new Fault(`${name} isn't a file that this page saved.`);
-    if (it.tenant !== summary.tenant) throw new Fault(`${name} is of the cluster ${it.tenant}, not of ${summary.tenant}.`);
-    note(summary.tenant, { pools: it.pools, states: it.states, files: it.files ?? {}, seen: it.seen, ...Object.fromEntries(SAID.filter((one) => one in it).map((one) => [one, it[one]])) });
-    return el("p", { class: "done" }, `${name} is read: ${many(it.pools.length, "pool")} and the states of ${many(Object.keys(it.states).length, "device")}.`);
+    if (it.crushcalc !== 1 || !Array.isArray(it.pools) || typeof it.states !== "object")
+        throw new Fault(`${name} isn't a file that this page saved.`);
+    if (it.tenant !== summary.tenant)
+        throw new Fault(`${name} is of the cluster ${it.tenant}, not of ${summary.tenant}.`);
+    note(
+        summary.tenant,
+        {
+            pools: it.pools, states: it.states, files: it.files ?? {}, seen: it.seen,
+            ...Object.fromEntries(SAID.filter((one) => one in it).map((one) => [one, it[one]]))
+        }
+    );
+    return el(
+        "p", { class: "done" },
+        `${name} is read: ${many(it.pools.length, "pool")} and the states of `
+            + `${many(Object.keys(it.states).length, "device")}.`
+    );
 }

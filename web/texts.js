@@ -9,7 +9,8 @@ function wordsOf(text) {
     let start = 0;
     text.split("\n").forEach((line, at) => {
         const said = line.split("#", 1)[0];
-        for (const it of said.matchAll(WORD)) words.push({ word: it[0], line: at + 1, start: start + it.index });
+        for (const it of said.matchAll(WORD))
+            words.push({ word: it[0], line: at + 1, start: start + it.index });
         start += line.length + 1;
     });
     return words;
@@ -19,7 +20,8 @@ function wordsOf(text) {
 function devicesIn(words) {
     const devices = new Map();
     words.forEach(({ word }, at) => {
-        if (word === "device" && /^\d+$/.test(words[at + 1]?.word ?? "")) devices.set(words[at + 2]?.word, { id: Number(words[at + 1].word), at });
+        if (word === "device" && /^\d+$/.test(words[at + 1]?.word ?? ""))
+            devices.set(words[at + 2]?.word, { id: Number(words[at + 1].word), at });
     });
     return devices;
 }
@@ -33,7 +35,9 @@ function bucketsIn(words) {
         for (at += 1; at < words.length && words[at].word !== "}"; at += 1) {
             if (words[at].word === "alg") bucket.alg = words[at + 1]?.word;
             if (words[at].word !== "item") continue;
-            const item = { name: words[at + 1]?.word, at: words[at + 1], line: words[at].line, weight: undefined };
+            const item = {
+                name: words[at + 1]?.word, at: words[at + 1], line: words[at].line, weight: undefined
+            };
             if (words[at + 2]?.word === "weight") item.weight = words[at + 3]?.word;
             bucket.items.push(item);
         }
@@ -66,7 +70,10 @@ const nothing = (weight) => weight !== undefined && Number(weight) === 0;
 function holesOf(buckets, zero) {
     return buckets.filter((it) => it.alg === "tree").flatMap((bucket) => {
         const places = bucket.items.filter((it) => it.name === zero && nothing(it.weight));
-        const weighed = (one) => one.items.some((it) => it.name === zero && !nothing(it.weight)), itself = !buckets.some(weighed) && zero !== undefined && bucket.items.every((it) => !buckets.some((one) => one.name === it.name));
+        const weighed = (one) => one.items.some((it) => it.name === zero && !nothing(it.weight));
+        const itself = !buckets.some(weighed) && zero !== undefined && bucket.items.every(
+            (it) => !buckets.some((one) => one.name === it.name)
+        );
         return places.slice(itself ? 1 : 0);
     });
 }
@@ -80,7 +87,9 @@ export function mended(text) {
     const first = Math.max(...[...devices.values()].map((it) => it.id)) + 1;
     let made = text;
     // from the end on, so that places before stay as they are
-    [...holes.entries()].sort(([, one], [, other]) => other.at.start - one.at.start).forEach(([place, { at }]) => {
+    [...holes.entries()].sort(
+        ([, one], [, other]) => other.at.start - one.at.start
+    ).forEach(([place, { at }]) => {
         made = `${made.slice(0, at.start)}hole.${first + place}${made.slice(at.start + at.word.length)}`;
     });
     const last = Math.max(...[...devices.values()].map((it) => words[it.at].line)), lines = made.split("\n");

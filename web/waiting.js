@@ -16,7 +16,11 @@ function show() {
     const at = document.getElementById("waiting"), work = running.at(-1), now = performance.now();
     at.hidden = !work || now - work.since < SAID_MS;
     if (at.hidden) return at.replaceChildren();
-    if (!at.firstChild) at.append(el("span", { role: "status" }), el("span", { "aria-hidden": "true" }), button("Stop", () => running.at(-1)?.stop(), { id: "stop" }));
+    if (!at.firstChild)
+        at.append(
+            el("span", { role: "status" }), el("span", { "aria-hidden": "true" }),
+            button("Stop", () => running.at(-1)?.stop(), { id: "stop" })
+        );
     const [words, seconds, stop] = at.children, long = now - work.began >= LONG_MS;
     const said = long ? `${work.words}: still waiting` : `${work.words} ..`;
     if (words.textContent !== said) words.textContent = said;
@@ -78,7 +82,10 @@ export async function filling(at, words, act) {
             if (mine()) at.replaceChildren(...[made].flat().filter(Boolean));
         } catch (why) {
             if (!mine()) return;
-            if (why instanceof Stopped && at.firstChild) at.prepend(el("p", { class: "fault", role: "alert" }, "Stopped: this is what was shown before."));
+            if (why instanceof Stopped && at.firstChild)
+                at.prepend(
+                    el("p", { class: "fault", role: "alert" }, "Stopped: this is what was shown before.")
+                );
             else at.replaceChildren(el("p", { class: "fault", role: "alert" }, why.message));
         } finally {
             if (mine()) at.removeAttribute("aria-busy");

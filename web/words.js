@@ -10,7 +10,9 @@ export function many(number, one, more = `${one}s`) {
 }
 
 export function some(all, most = 6) {
-    return all.length > most ? `${all.slice(0, most).join(", ")} and ${count(all.length - most)} more` : all.join(", ");
+    return all.length > most
+        ? `${all.slice(0, most).join(", ")} and ${count(all.length - most)} more`
+        : all.join(", ");
 }
 
 const UNITS = ["B", "KiB", "MiB", "GiB", "TiB", "PiB", "EiB"];

@@ -1,7 +1,7 @@
 """Each number that the page shows is the one that crushplan prints: the kept clusters of
-tests/crushplan, of which crushplan's answers are compared with Ceph's, are dropped on the page, and
-what it shows of drains, failures, usage, another map and upmap items is compared with crushplan's
-JSON."""
+tests/crushplan, of which crushplan's answers are compared with Ceph's, and the kept steps of real
+clusters (tests/cluster/data) are dropped on the page, and what it shows of drains, failures, usage,
+another map and upmap items is compared with crushplan's JSON."""
 import json
 import os
 import subprocess
@@ -10,6 +10,7 @@ from collections import defaultdict
 from page import TOP, first, unlike
 
 CLUSTERS = TOP / "tests" / "crushplan" / "clusters"
+STEPS = TOP / "tests" / "cluster" / "data"
 FILES = ("crush.json", "osd.json", "df.json", "osd-df.json", "pgs.json")
 
 
@@ -188,42 +189,64 @@ def same_failure(page, program, folder, names):
 
 
 def same_compare(page, program, folder, name):
+    """Another map: the figures, the verdict, what is used then, hosts, pools and groups."""
     said = plan(program, folder, "compare", folder / name, "--groups")
     page.browser.tab("Map")
     page.browser.drop((folder / name).read_text(), name)
     page.browser.one("#answer")
     page.settled()
-    figures, what = page.figures(), f"compare {name}"
-    missing = sum(it["missing_copies"] for it in said["pools"])
-    verdict = page.browser.text("#verdict")
-    wanted = {it["name"]: signed(it["gained"] - it["lost"]) for it in said["hosts"]}
-    here = {it: own[2] for it, own in shown_by(page, "host", "usages").items()}
+    figures, what, verdict = page.figures(), f"compare {name}", page.browser.text("#verdict")
+    rows = lambda table: [[cell.text for cell in it.find_elements("css selector", "th, td")] for it in page.browser.all(f"#{table} tbody tr")]
+    hosts = [[it["name"], counted(it["lost"]), counted(it["gained"])] for it in said["hosts"]]
+    pools = [[it["name"], counted(it["moved"]), counted(it["copies"])] for it in said["pools"]]
+    least = [float(it.replace(",", "")) for it in (figures.get("least", "nan"), *(own[5] for own in rows("by-pool")))]
+    wanted = [said["least"], *(it["least"] for it in said["pools"] if len(pools) > 1)]
     return first(
-        unlike({key: figures[key] for key in ("moved", "anew")}, {"moved": counted(said["moved"]), "anew": counted(said["copies"])}, f"{what}:"),
-        None if (counted(missing) in verdict and verdict.startswith("No") if missing else verdict.startswith("Yes")) else f"{what}: {verdict}",
-        unlike({it: own for it, own in here.items() if it in wanted or own != "0"}, wanted, f"{what}, hosts:"), same_groups(page, what, said),
+        unlike({key: figures[key] for key in ("moved", "anew")}, {"moved": counted(said["moved"]), "anew": counted(said["copies"])}, f"{what}:"), verdict_fault(what, verdict, said),
+        None if len(least) == len(wanted) and all(abs(one - other) <= 0.0501 for one, other in zip(least, wanted)) else f"{what}, the least: {least}, not {wanted}",
+        room_fault(what, figures, said["fullest"]), None if said["bytes"] is None or sized(said["bytes"]) in page.browser.text("[data-figure='anew'] dt") else f"{what}: the bytes aren't {sized(said['bytes'])}",
+        unlike([[it[0], *it[3:5]] for it in rows("by-pool")], pools if len(pools) > 1 else [], f"{what}, pools:"), unlike(rows("by-host"), hosts, f"{what}, hosts:"), same_groups(page, what, said),
     )
 
 
+def verdict_fault(what, verdict, said):
+    """Why the page's verdict on another map isn't crushplan's, or None."""
+    missing, full = sum(it["missing_copies"] for it in said["pools"]), said["past_backfillfull"]
+    head = "No" if missing or full else "Unknown" if "not all can be computed" in said["answer"] else "Yes"
+    words = ([counted(missing)] if missing else []) + ([f"osd.{full[0]} would be ", "past the backfill-full ratio"] if full else []) + ([f"{counted(len(said['past_nearfull']))} device"] if said["past_nearfull"] and head == "Yes" else [])
+    return None if verdict.startswith(head) and all(it in verdict for it in words) else f"{what}: {verdict!r} is no {head} with {words}; crushplan says {said['answer']!r}"
+
+
+def room_fault(what, figures, fullest):
+    """Why what is used of the fullest device isn't what crushplan says, or None."""
+    if fullest is None:
+        return f"{what}: room {figures['room']}" if "room" in figures else None
+    return None if "room" in figures and abs(float(figures["room"].rstrip("%")) - 100 * fullest["used_after"]) <= 0.06 else f"{what}: room {figures.get('room')}, not {fullest}"
+
+
 def same_upmap(page, program, folder):
-    """The lines of the cluster's file of commands that are of one pool, tried beside its others."""
-    said = plan(program, folder, "upmap", folder / "commands")
-    lines = [it for it in (folder / "commands").read_text().splitlines() if it.split()[3].startswith("1.")]
+    """The lines of the cluster's file of commands, those of each pool tried beside its others."""
+    said, lines = plan(program, folder, "upmap", folder / "commands"), (folder / "commands").read_text().splitlines()
+    pools = sorted({int(it.split()[3].split(".")[0]) for it in lines})
+    return first(*(same_pairs(page, said, pool, [it for it in lines if it.split()[3].startswith(f"{pool}.")]) for pool in pools), None if said["moved"] else "upmap: no group moves")
+
+
+def same_pairs(page, said, pool, lines):
     page.browser.tab("Pools")
-    page.browser.until(lambda: page.browser.all("main tbody tr[data-pool='1'] a"), "the number of exceptions isn't shown")
-    page.browser.click("main tbody tr[data-pool='1'] a")
+    page.browser.until(lambda: page.browser.all(f"main tbody tr[data-pool='{pool}'] a"), "the number of exceptions isn't shown")
+    page.browser.click(f"main tbody tr[data-pool='{pool}'] a")
     own = page.browser.one("#pairs").get_property("value")
     page.browser.run("document.getElementById('pairs').value = arguments[0]", "\n".join([own, *lines]))
     page.browser.click("#try")
     page.browser.one("#answer")
     page.settled()
-    groups = [it for it in said["groups"] if it["pool"] == 1]
+    groups, what = [it for it in said["groups"] if it["pool"] == pool], f"upmap of pool {pool}"
     moved = {it["id"]: it for it in groups if it["before"] != it["after"]}
     found, figures, verdict, broken = groups_shown(page), page.figures(), page.browser.text("#verdict"), sum(it["breaks"] is not None for it in groups)
     return first(
-        None if (f"{broken} group{'s' if broken > 1 else ''} would break the rule" in verdict if broken else "break the rule" not in verdict) else f"upmap: {verdict}, and {broken} groups break it",
-        unlike((figures["moved"], figures["anew"]), (counted(len(moved)), counted(sum(it["copies"] for it in groups))), "upmap:"),
-        unlike(found, {id_: [field(it["before"]), field(it["after"])] for id_, it in moved.items()}, "upmap, groups:"), None if moved else "no group of pool 1 moves",
+        None if (f"{broken} group{'s' if broken > 1 else ''} would break the rule" in verdict if broken else "break the rule" not in verdict) else f"{what}: {verdict}, and {broken} groups break it",
+        unlike((figures["moved"], figures["anew"]), (counted(len(moved)), counted(sum(it["copies"] for it in groups))), f"{what}:"),
+        unlike(found, {id_: [field(it["before"]), field(it["after"])] for id_, it in moved.items()}, f"{what}, groups:"),
     )
 
 
@@ -241,5 +264,30 @@ def compared(folder):
     return case
 
 
+def stepped(folder):
+    """A step of a real cluster, as its words are."""
+    def case(page):
+        command, *words = json.loads((folder / "step.json").read_text())["words"]
+        dropped(page, folder)
+        program, names = page.program, [it for it in words if it != "--groups"]
+        files = [it.removeprefix("FOLDER/") for it in names]
+        answer = {
+            "drain": lambda: same_drain(page, program, folder, names), "fail": lambda: same_failure(page, program, folder, names),
+            "upmap": lambda: same_upmap(page, program, folder), "compare": lambda: same_compare(page, program, folder, files[0]),
+        }  # fmt: skip
+        return first(lying_fault(page, program, folder), same_usage(page, program, folder), answer[command]())
+
+    case.__name__ = f"crushplan_says_the_same_of_a_real_cluster_{folder.name.replace('-', '_')}"
+    return case
+
+
+def lying_fault(page, program, folder):
+    """Why the page doesn't say of how groups lie what check says, or None."""
+    check, said = plan(program, folder, "check")["answer"], page.browser.text("#said")
+    lying = "as computed" in check and check.rstrip(".").split("; ")[-1]
+    return None if not lying or lying in said else f"{lying!r} isn't in {said!r}"
+
+
 def cases():
-    return tuple(compared(it) for it in sorted(CLUSTERS.iterdir()) if (it / "answers.json").exists())
+    kept = (compared(it) for it in sorted(CLUSTERS.iterdir()) if (it / "answers.json").exists())
+    return (*kept, *(stepped(it) for it in sorted(STEPS.iterdir())))
