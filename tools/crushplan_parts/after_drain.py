@@ -1,8 +1,10 @@
 """What removing the drained devices from the map would move again, and what it moves where their
 CRUSH weight becomes 0 first, in the place of the drain."""
+import fractions
+
 from .edits import purged, weighed
 from .stages import Stages
-from .summary import bytes_anew, gains, total, whole, written_anew
+from .summary import Bytes, bytes_anew, gains, total, whole, written_anew
 
 
 class Steps:
@@ -13,10 +15,10 @@ class Steps:
         after."""
         self.moved = sum(len(moves) for _, moves in changes)
         self.groups = [(change.pool, group, *both) for change, moves in changes for group, both in sorted(moves.items())]
-        self.copies = sum(written_anew(pool, old, new) for pool, _, old, new in self.groups)
-        lists = [(change, [(group, *both) for group, both in moves.items()]) for change, moves in changes]
-        self.bytes = total(bytes_anew(*it) for it in lists)
-        self.gains = [(change, gains(change.pool, own)) for change, own in lists]
+        written = [(change, [(group, written_anew(change.pool, *both)) for group, both in moves.items()]) for change, moves in changes]
+        self.copies = sum(copies for _, own in written for _, copies in own)
+        self.bytes = total(bytes_anew(*it) for it in written)
+        self.gains = [(change, gains(change.pool, [(group, *both) for group, both in moves.items()])) for change, moves in changes]
 
     def said(self, with_groups):
         found = {"moved": self.moved, "copies": self.copies, "bytes": whole(self.bytes)}
@@ -33,7 +35,8 @@ class AfterDrain:
 
     def __init__(self, plan, devices):
         self.plan, self.devices = plan, devices
-        has = {it.id for it in plan.map.buckets.values() if set(devices) & {item for item, _ in it.items}} | set(devices)
+        has, own = set(devices), set(devices)
+        has.update(it.id for it in plan.map.buckets.values() if not own.isdisjoint([item for item, _ in it.items]))
         self.pools = [it.id for it in plan.pools.values() if has & self.below(it)]
         own = {it: plan.pools[it] for it in self.pools}
         self.gone, self.weightless = purged(plan.map, devices), weighed(plan.map, devices)
@@ -69,15 +72,23 @@ class AfterDrain:
         self.purge, self.weight_first, self.then_purge = (self.steps(changes, it) for it in (purge, first, second))
         # a uniform bucket picks a device of the weight 0 as any other
         own = set(self.devices)
-        self.left = sum(it.before.entries.get(device, 0) for it in changes for device in own) + sum(len(own & set(new)) - len(own & set(old)) for _, _, old, new in self.weight_first.groups)
+        self.left = sum(it.before.entries.get(device, 0) for it in changes for device in own) + sum(len(own.intersection(new)) - len(own.intersection(old)) for _, _, old, new in self.weight_first.groups)
         self.too_full = self.find_too_full()
 
     def find_too_full(self):
-        cluster, found = self.plan.cluster, []
-        for device, room in sorted(cluster.rooms.items()):
-            gained = total(change.bytes_of(copies[device]) for change, copies in self.weight_first.gains if copies[device])
-            if gained is not None and gained > 0 and cluster.is_past("backfillfull_ratio", room.used_after(gained)):
-                found.append((device, room.used_after(gained)))
+        rooms, ratio, all_ = self.plan.cluster.rooms, self.plan.cluster.ratios.get("backfillfull_ratio"), self.weight_first.gains
+        if ratio is None or not rooms:
+            return []
+        known = [(change, copies) for change, copies in all_ if change.bytes_of(0) is not None]
+        unknown = {device for change, copies in all_ if change.bytes_of(0) is None for device, count in copies.items() if count}
+        bytes_, gained, found, (over, under) = Bytes([change for change, _ in known]), {}, [], ratio.as_integer_ratio()
+        for (_, copies), part in zip(known, bytes_.parts):
+            for device, count in copies.items():
+                gained[device] = gained.get(device, 0) + count * part
+        for device in sorted(gained.keys() & rooms.keys() - unknown):
+            room, more = rooms[device], gained[device]
+            if more > 0 and room.size > 0 and (room.used * bytes_.measure + more) * under > over * room.size * bytes_.measure:
+                found.append((device, room.used_after(fractions.Fraction(more, bytes_.measure))))
         return found
 
     def steps(self, changes, moves):

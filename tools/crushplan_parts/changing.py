@@ -19,7 +19,7 @@ class Start:
         self.usage = {pool: usages.counted(it) for pool, it in asked.items()}
         plan.doubt_usage(self.usage)
         self.impact = {key: impacts.can_move(it) for key, it in lists.items()} if lists else {}
-        self.all_lists, self.before = {}, None
+        self.all_lists, self.lacking, self.before = {}, {}, None
         self.ask_short_pools()
 
     def ask_short_pools(self):
@@ -32,6 +32,9 @@ class Start:
         asked = {it.id: run.lists(it.id, range(it.pg_num)) for it in short}
         self.plan.answer(run)
         self.all_lists = {pool: run.placements(it) for pool, it in asked.items()}
+        for it in short:
+            lacking = ((group, it.size - copies_in(of.up)) for group, of in self.all_lists[it.id].items())
+            self.lacking[it.id] = {group: count for group, count in lacking if count > 0}
 
     def groups(self, pool, devices):
         """Returns the groups that can move where reweights of these devices are lowered."""
@@ -63,12 +66,16 @@ def pool_changes(plan, start, devices, before, after):
     for id_, pool in plan.pools.items():
         old, new = before.get(id_, {}), after.get(id_, {})
         moves = [Moved(pool, group, old[group], new[group]) for group in sorted(old) if old[group].up != new[group].up]
-        found.append(PoolChange(pool, start.usage[id_], start.groups(id_, devices), moves, start.all_lists.get(id_)))
+        found.append(PoolChange(pool, start.usage[id_], start.groups(id_, devices), moves, start.lacking.get(id_)))
     return found
 
 
-def short_now(pool, lists, all_lists):
-    """Returns the groups of a pool that lack copies by some lists, over those of all groups where
-    these are known: copies by group."""
-    found = {group: copies_in(it.up) for group, it in {**(all_lists or {}), **lists}.items()}
-    return {group: copies for group, copies in found.items() if copies < pool.size}
+def short_now(pool, lists, lacking):
+    """Returns the groups of a pool that lack copies by some lists, and of the others those that
+    lacked some before: copies by group."""
+    found = {group: pool.size - count for group, count in (lacking or {}).items() if group not in lists}
+    for group, it in lists.items():
+        copies = copies_in(it.up)
+        if copies < pool.size:
+            found[group] = copies
+    return found

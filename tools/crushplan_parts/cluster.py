@@ -11,7 +11,6 @@ from .faults import Fault, some
 from .fields import opened
 from .read_dump import read_dump
 from .read_pgs import NONE, read_pgs
-from .read_text import read_text
 
 MAP_DUMP, MAP_TEXT, OSD_DUMP, DF, OSD_DF, PGS = "crush.json", "map.txt", "osd.json", "df.json", "osd-df.json", "pgs.json"
 HASHPSPOOL, RJENKINS = 1, 2
@@ -41,13 +40,14 @@ class Pool:
         """Returns a group's id as Ceph writes it."""
         return f"{self.id}.{group:x}"
 
-    def part_of(self, group):
-        """Returns how many of the pool's groups this one counts for by its objects: other than 1
-        where pg_num is no power of two, since Ceph's stable_mod gives some groups twice as many."""
+    def parts(self):
+        """Returns how many of the pool's groups one counts for by its objects, as what is above and
+        below a line, and the groups that count for twice as many: there are some where pg_num is no
+        power of two, since Ceph's stable_mod gives them twice the objects."""
         whole = 1 << (self.pg_num - 1).bit_length()
         if whole == self.pg_num:
-            return 1
-        return fractions.Fraction(self.pg_num * (2 if self.pg_num - whole // 2 <= group < whole // 2 else 1), whole)
+            return (1, 1), range(0)
+        return (self.pg_num, whole), range(self.pg_num - whole // 2, whole // 2)
 
     def place_of(self, group):
         """Returns the place by which groups share a seed (Ceph's stable_mod by pgp_num)."""
@@ -115,6 +115,8 @@ def read_map(folder, with_osd_0):
     if dump.exists():
         map_ = read_dump(dump, MAP_DUMP)
     elif text.exists():
+        from .read_text import read_text  # long, and seldom needed
+
         map_ = read_text(text_of(text), MAP_TEXT)
     else:
         raise Fault(f"{folder}: it has neither crush.json ('ceph osd crush dump -f json') nor map.txt ('crushtool -d'); 'crushplan fetch {folder}' writes them where ceph is there")

@@ -9,7 +9,6 @@ from .faults import counted, some
 from .output import Answer, Table, devices_text, sized
 from .placing import Note
 from .read_dump import read_dump
-from .read_text import read_text
 from .pgs import entries_said
 from .reports import COPY, listed, used_said
 from .run import Usage
@@ -26,7 +25,12 @@ def read_new(plan, path):
     """Reads the changed map: a text, or a dump."""
     path = pathlib.Path(path)
     start = text_of(path).lstrip()[:1]
-    map_ = read_dump(path, path.name) if start == "{" else read_text(text_of(path), path.name)
+    if start == "{":
+        map_ = read_dump(path, path.name)
+    else:
+        from .read_text import read_text
+
+        map_ = read_text(text_of(path), path.name)
     mark_holes(map_.buckets, 0 in plan.cluster.states or plan.cluster.described)
     return map_
 
@@ -150,10 +154,10 @@ class Compared:
 
     def __init__(self, plan, map_, pool, before, after, moves):
         self.pool, self.moves = pool, moves
-        self.copies = sum(written_anew(pool, *it) for it in self.moves.values())
+        written = [(group, written_anew(pool, *both)) for group, both in self.moves.items()]
+        self.copies = sum(copies for _, copies in written)
         self.change = PoolChange(pool, before, set(), [])
-        lists = [(group, *both) for group, both in self.moves.items()]
-        self.bytes, self.gains = bytes_anew(self.change, lists), gains(pool, lists)
+        self.bytes, self.gains = bytes_anew(self.change, written), gains(pool, [(group, *both) for group, both in self.moves.items()])
         self.missing, self.missing_before = (pool.size * pool.pg_num - it.total() for it in (after, before))
         old = Shares(plan.map, plan.map.rules[pool.rule], pool.size, plan.state)
         new = Shares(map_, map_.rules[pool.rule], pool.size, lambda it: plan.state(it) if it in plan.known else State())

@@ -74,6 +74,7 @@ class CrushMap:
     buckets: dict
     rules: dict
     weight_sets: dict = dataclasses.field(default_factory=dict)
+    kept: dict = dataclasses.field(default_factory=dict, repr=False, compare=False)  # what lies below items
 
     def name_of(self, item):
         if item in self.buckets:
@@ -91,29 +92,35 @@ class CrushMap:
         found = {(ids.get(it.name.rsplit("~", 1)[0]), it.shadow): it.id for it in self.buckets.values() if it.shadow}
         return {(bucket, class_): id_ for (bucket, class_), id_ in found.items() if bucket is not None}
 
-    def below(self, item, seen=None):
+    def below(self, item):
         """Returns the devices below an item, each once, in order; a device is below itself."""
-        seen = set() if seen is None else seen
-        if item is None or item in seen:
-            return []
-        seen.add(item)
-        if item not in self.buckets:
-            return [item] if item >= 0 else []
-        return [device for inner, _ in self.buckets[item].items for device in self.below(inner, seen)]
+        return self.all_below(item)[0]
 
     def buckets_below(self, item):
         """Returns the ids of the buckets at and below an item."""
-        found = {}
+        return self.all_below(item)[1]
 
-        def visit(id_):
-            found[id_] = True
-            for inner, _ in self.buckets[id_].items:
-                if inner in self.buckets and inner not in found:
-                    visit(inner)
+    def all_below(self, item):
+        """Returns both, which are found once: nothing is changed below an item that was asked for
+        (edits.py changes copies)."""
+        if item not in self.kept:
+            devices, buckets = {}, {}
 
-        if item in self.buckets:
-            visit(item)
-        return list(found)
+            def visit(id_):
+                buckets[id_] = True
+                for inner, _ in self.buckets[id_].items:
+                    if inner in self.buckets:
+                        if inner not in buckets:
+                            visit(inner)
+                    elif inner is not None and inner >= 0:
+                        devices[inner] = True
+
+            if item in self.buckets:
+                visit(item)
+            elif item is not None and item >= 0:
+                devices[item] = True
+            self.kept[item] = list(devices), list(buckets)
+        return self.kept[item]
 
     def cycle(self):
         """Returns the ids of buckets of which each has the next as an item, and the last the first;

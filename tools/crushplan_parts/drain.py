@@ -24,7 +24,7 @@ def drain(plan, asked):
     changes = pool_changes(plan, start, devices, before, after)
     later.take(changes, purge, first, second)
     summary, stay = Summary(plan, changes, devices), Stay(plan, start, devices, changes)
-    warn_of_room(plan, summary)
+    warn_of_room(plan)
     warn_of_flags(plan)
     status = status_of(plan, summary, stay)
     fields = lambda: {

@@ -9,6 +9,7 @@ from .shadows import rebuilt
 def copied(map_):
     """Returns a map whose buckets and weight sets can be changed."""
     found = copy.copy(map_)
+    found.kept = {}
     found.buckets = {id_: copy.copy(it) for id_, it in map_.buckets.items()}
     for it in found.buckets.values():
         it.items = list(it.items)
@@ -19,15 +20,25 @@ def copied(map_):
     return found
 
 
-def set_weight(map_, item, weight, with_sets=True, with_shadows=True):
+def holders_of(map_):
+    """Returns the buckets that have each item, in the order of the map. Those of which it was taken
+    are still among them."""
+    found = {}
+    for bucket in map_.buckets.values():
+        for item in dict.fromkeys(item for item, _ in bucket.items):
+            found.setdefault(item, []).append(bucket)
+    return found
+
+
+def set_weight(map_, holders, item, weight, with_sets=True, with_shadows=True):
     """Gives an item a weight in each bucket that has it, and the buckets above the sums; with it in
     weight sets."""
-    for bucket in list(map_.buckets.values()):
+    for bucket in holders.get(item, ()):
         if (with_shadows or not bucket.shadow) and any(it == item for it, _ in bucket.items):
-            set_in_bucket(map_, bucket, item, weight, with_sets, with_shadows)
+            set_in_bucket(map_, holders, bucket, item, weight, with_sets, with_shadows)
 
 
-def set_in_bucket(map_, bucket, item, weight, with_sets, with_shadows):
+def set_in_bucket(map_, holders, bucket, item, weight, with_sets, with_shadows):
     if bucket.alg == "uniform":
         # a uniform bucket has one weight, which all its items get
         bucket.items = [(it, weight) for it, _ in bucket.items]
@@ -36,7 +47,7 @@ def set_in_bucket(map_, bucket, item, weight, with_sets, with_shadows):
     for own in map_.weight_sets.values():
         for row in own.rows.get(bucket.id, ()) if with_sets else ():
             row[place_of(bucket, item)] = weight
-    set_weight(map_, bucket.id, bucket.weight(), False, with_shadows)
+    set_weight(map_, holders, bucket.id, bucket.weight(), False, with_shadows)
 
 
 def place_of(bucket, item):
@@ -68,13 +79,13 @@ def sum_up(map_, rows, id_, done):
                 row[place] = sum(below)
 
 
-def remove(map_, device):
+def remove(map_, holders, device):
     """Takes an item out of each bucket that has it. A tree bucket keeps a hole, but for places of
     no weight at its end, which it loses."""
-    for bucket in list(map_.buckets.values()):
+    for bucket in holders.get(device, ()):
         if bucket.shadow or not any(item == device for item, _ in bucket.items):
             continue
-        set_in_bucket(map_, bucket, device, 0, True, False)
+        set_in_bucket(map_, holders, bucket, device, 0, True, False)
         if bucket.alg == "tree":
             bucket.items = [(None, 0) if item == device else (item, weight) for item, weight in bucket.items]
             while bucket.items and bucket.items[-1][1] == 0:
@@ -89,8 +100,9 @@ def remove(map_, device):
 def weighed(map_, devices, weight=0):
     """Returns the map with another weight of devices, one after the other."""
     found = copied(map_)
+    holders = holders_of(found)
     for it in devices:
-        set_weight(found, it, weight)
+        set_weight(found, holders, it, weight)
     make_whole(found)
     return found
 
@@ -99,8 +111,9 @@ def purged(map_, devices):
     """Returns the map without devices, which are removed one after the other. Ceph then makes the
     trees of classes anew."""
     found = copied(map_)
+    holders = holders_of(found)
     for it in devices:
-        remove(found, it)
+        remove(found, holders, it)
     make_whole(found)
     rebuilt(found, found.shadows())
     return found

@@ -25,7 +25,7 @@ class Down:
     def __init__(self, plan, start, lists):
         self.rows = []
         for id_, pool in plan.pools.items():
-            short = short_now(pool, lists.get(id_, {}), start.all_lists.get(id_))
+            short = short_now(pool, lists.get(id_, {}), start.lacking.get(id_))
             for group, copies in sorted(short.items()):
                 self.rows.append((pool, group, lists.get(id_, {}).get(group) or start.all_lists[id_][group], copies))
         self.short = len(self.rows)
@@ -90,7 +90,7 @@ def fail(plan, asked):
     start = Start(plan, devices)
     it = Failure(plan, start, devices)
     stay = Stay(plan, start, devices, it.summary.changes)
-    warn_of_room(plan, it.summary)
+    warn_of_room(plan)
     warn_of_outs(plan, asked.names, devices)
     stretched = plan.stretched(devices)
     status = status_of(plan, it.summary, stay, it.down.stopped) or (UNKNOWN if stretched else 0)
@@ -141,43 +141,37 @@ def warn_of_outs(plan, names, devices):
 
 
 class Each:
-    """A bucket of a type that fails: its item, what that does, and what of it isn't computed."""
+    """A bucket of a type that fails: what that does, in numbers, and what of it isn't computed. The
+    groups themselves aren't kept: those of all buckets take much memory."""
 
     def __init__(self, plan, start, levels, item, devices, lists):
-        self.item, self.name = item, plan.map.name_of(item)
-        self.failure = Failure(plan, start, devices, lists, levels)
-        self.stay = Stay(plan, start, devices, self.failure.summary.changes)
-        self.stretched = plan.stretched(devices)
-        stopped = self.failure.down.stopped
-        self.status = status_of(plan, self.failure.summary, self.stay, stopped) or (UNKNOWN if self.stretched else 0)
+        self.name = plan.map.name_of(item)
+        it = Failure(plan, start, devices, lists, levels)
+        stay, summary, stretched = Stay(plan, start, devices, it.summary.changes), it.summary, plan.stretched(devices)
+        self.status = status_of(plan, summary, stay, it.down.stopped) or (UNKNOWN if stretched else 0)
         # nothing of it was computed where no computed pool can have groups on its devices, and
         # another has
-        self.is_blank = self.stay.is_unknown() and not plan.touched(devices)
-
-    def order(self):
-        """Returns what is least for the worst."""
-        summary = self.failure.summary
-        return (-self.failure.down.stopped, -summary.missing, -len(summary.past["backfillfull_ratio"]), -summary.copies, self.is_blank, self.name)
-
-    def is_in_part(self):
-        return self.stay.is_unknown() or bool(self.stretched)
-
-    def said(self):
-        it, summary = self.failure, self.failure.summary
-        found = {
+        self.is_blank = stay.is_unknown() and not plan.touched(devices)
+        self.is_stretched, self.is_in_part = bool(stretched), stay.is_unknown() or bool(stretched)
+        self.knows_room = summary.knows_room()
+        self.numbers = {
             "below_min_size": it.down.stopped, "short_down": it.down.short, "short_groups": summary.short, "missing_copies": summary.missing, "too_full": len(summary.past["backfillfull_ratio"]),
             "moved": len(summary.moves), "can_move": summary.can_move, "copies": summary.copies, "bytes": whole(summary.bytes),
         }  # fmt: skip
-        if self.is_blank:
-            found = dict.fromkeys(found)
-        return {"name": self.name, "devices": len(it.devices), **found, "status": self.status, "fullest": None if self.is_blank else summary.fullest and summary.device_said(summary.fullest)}
+        found = dict.fromkeys(self.numbers) if self.is_blank else self.numbers
+        fullest = None if self.is_blank else summary.fullest and summary.device_said(summary.fullest)
+        self.said = {"name": self.name, "devices": len(devices), **found, "status": self.status, "fullest": fullest}
+
+    def order(self):
+        """Returns what is least for the worst."""
+        return (*(-self.numbers[it] for it in ("below_min_size", "missing_copies", "too_full", "copies")), self.is_blank, self.name)
 
     def row(self):
         """Returns its line of the table; what isn't known is a question mark."""
-        it = self.said()
+        it = self.said
         if self.is_blank:
             return [it["name"], it["devices"], *[Sized("?")] * 7, "?"]
-        stops = Sized("?") if self.stretched and not it["below_min_size"] else it["below_min_size"]
+        stops = Sized("?") if self.is_stretched and not it["below_min_size"] else it["below_min_size"]
         return [it["name"], it["devices"], stops, it["short_down"], it["missing_copies"], it["too_full"], it["moved"], it["copies"], sized(it["bytes"]), each_fullest(it)]
 
 
@@ -195,20 +189,24 @@ def fail_each(plan, asked):
             progress.at(len(found))
             # side by side, each with some of them, and no more at once than fit into memory
             shares = [part[it::JOBS] for it in range(JOBS) if part[it::JOBS]]
-            placed = plan.side_by_side(*(lambda own=own: in_turn(plan, start.touched, [(stages_of(plan, of), start.wanted(of), start.before) for _, of in own]) for own in shares))
-            for unit, lists in ((unit, lists) for own, all_ in zip(shares, placed) for unit, lists in zip(own, all_)):
-                found.append(Each(plan, start, levels, *unit, lists))
-                progress.at(len(found))
+            found += [it for own in plan.side_by_side(*(lambda own=own: each_of(plan, start, levels, own) for own in shares)) for it in own]
+            progress.at(len(found))
     finally:
         progress.end()
-    warn_of_room(plan, found[0].failure.summary)
+    warn_of_room(plan)
     warn_of_outs(plan, [plan.map.name_of(it) for it in items], [device for _, devices in units for device in devices])
     found.sort(key=Each.order)
-    statuses, rows = [it.status for it in found], [it.said() for it in found]
+    statuses, rows = [it.status for it in found], [it.said for it in found]
     status = 1 if 1 in statuses else 2 if 2 in statuses else 0
     own = [list(rows[0])[:-1] + ["fullest", "fullest_percent", "fullest_used"]] + [[*list(it.values())[:-1], *((it["fullest"] or {}).get(key) for key in ("name", "percent_after", "used_after"))] for it in rows]
-    has = "room" if all(it.failure.summary.knows_room() for it in found) else "a device"
+    has = "room" if all(it.knows_room for it in found) else "a device"
     return Answer(status, each_sentence(plan, asked.each, statuses, has), {"type": asked.each, "each": rows}, [each_table(asked.each, found), each_words(rows)] if plan.pools else [], own)
+
+
+def each_of(plan, start, levels, units):
+    """Returns what some of the buckets cost, each of which fails alone."""
+    placed = in_turn(plan, start.touched, [(stages_of(plan, of), start.wanted(of), start.before) for _, of in units])
+    return [Each(plan, start, levels, *unit, lists) for unit, lists in zip(units, placed)]
 
 
 def parts_of(start, units):
@@ -228,9 +226,9 @@ def parts_of(start, units):
 
 def each_table(name, found):
     heads, table = (name, "devices", "stops", "short", "no device", "too full", "move", "copies", "bytes", "fullest"), [it.row() for it in found]
-    if any(it.is_in_part() for it in found):
+    if any(it.is_in_part for it in found):
         heads = (*heads, "computed")
-        table = [(*row, "nothing" if it.is_blank else "in part" if it.is_in_part() else "all") for row, it in zip(table, found)]
+        table = [(*row, "nothing" if it.is_blank else "in part" if it.is_in_part else "all") for row, it in zip(table, found)]
     return Table(heads, table, spare=(1, 3, 8))
 
 

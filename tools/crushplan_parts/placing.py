@@ -35,6 +35,7 @@ class Plan:
     def __init__(self, cluster, client):
         self.cluster, self.client, self.map, self.tree = cluster, client, cluster.map, Tree(cluster.map)
         self.notes, self.pools, self.left_out, self.sets, self.shares, self.doubt = [], {}, {}, {}, {}, None
+        self.in_buckets, self.by_exception = None, {}
         for pool in cluster.pools.values():
             why = pool_fault(self.map, pool, cluster.described)
             if why:
@@ -119,6 +120,7 @@ class Plan:
         self.left_out.pop(pool.id)
         self.notes = [it for it in self.notes if not (it.open and it.pools == [pool.id])]
         self.pairs[pool.id] = self.known_pairs(pool)
+        self.by_exception.pop(pool.id, None)
 
     def known_pairs(self, pool):
         """Returns the upmap items of a pool that crushcalc can have: of its groups, and of devices
@@ -165,7 +167,9 @@ class Plan:
 
     def placed(self):
         """Returns the devices that stand in some bucket, and that a text declares."""
-        return [it for it in self.tree.placed_devices() if it in self.known]
+        if self.in_buckets is None:
+            self.in_buckets = [it for it in self.tree.placed_devices() if it in self.known]
+        return self.in_buckets
 
     def reach(self, pool):
         """Returns the devices that a pool's rule can answer."""
@@ -194,9 +198,17 @@ class Plan:
 
     def with_exception_to(self, pool, devices):
         """Returns the groups that have a pair to one of the devices, or a whole list with one."""
-        devices = set(devices)
-        found = {group for group, pairs in self.pairs[pool].items() if any(new in devices for _, new in pairs)}
-        return found | {group for group, own in self.exceptions.lists.get(pool, {}).items() if devices & set(own)}
+        if pool not in self.by_exception:
+            found = {}
+            for group, pairs in self.pairs[pool].items():
+                for _, new in pairs:
+                    found.setdefault(new, set()).add(group)
+            for group, own in self.exceptions.lists.get(pool, {}).items():
+                for device in own:
+                    found.setdefault(device, set()).add(group)
+            self.by_exception[pool] = found
+        found = self.by_exception[pool]
+        return set().union(*(found[it] for it in devices if it in found))
 
     def doubt_groups(self, placements):
         """Doubts all answers where groups, by pool, lie otherwise than the cluster itself says."""

@@ -5,7 +5,7 @@ from .faults import counted, some
 from .output import Table, devices_text, shown, sized
 from .placing import Note
 from .shares import hundredths, percent, rounded
-from .summary import whole
+from .summary import bytes_after, looks_at_room, whole
 
 MOST_ROWS = 40  # devices in a table of usage; where there are more, hosts are shown
 COPY = ("copy", "copies")
@@ -47,9 +47,9 @@ def status_of(plan, summary, stay, stopped=0):
     return 2 if stay.is_unknown() or not plan.pools or summary.room_gap() else 0
 
 
-def warn_of_room(plan, summary):
+def warn_of_room(plan):
     """Warns where no device counts as full, since the files don't say how full they are."""
-    if summary.changes and not summary.looks_at_room():
+    if plan.pools and not looks_at_room(plan.cluster):
         plan.cluster.warnings.append(NO_ROOM)
 
 
@@ -180,7 +180,7 @@ def usage_table(plan, summary, by):
     for name, host, own in grouped(plan, devices, type_):
         before, after, expected = sum(it.before for it in own), sum(it.after for it in own), sum_fractions(it.expected_after for it in own)
         row = [name] + ([host] if type_ == 0 else []) + [before, after, after - before, rounded(*expected, 1), percent(after, expected)]
-        row += [sized(sum(it.bytes_after or 0 for it in own))] if known else []
+        row += [sized(bytes_after(own))] if known else []
         row += [None if own[0].used_after is None else rounded(own[0].used_after.numerator * 100, own[0].used_after.denominator, 1)] if used else []
         rows.append(row)
     return Table(heads, rows, f"Copies before and after, by {heads[0]}:")

@@ -1,7 +1,6 @@
 """Requests on tenants that have the cluster, and the replies to them."""
 from .cluster import State
-from .faults import Fault
-from .service import change, get
+from .service import Groups, change, get, refused
 
 MOST_PAIRS, MOST_CHANGES = 1024, 1024
 
@@ -19,7 +18,8 @@ class Side:
 
 
 class Asked:
-    """Where groups of a pool were asked for: places of requests, with what held then."""
+    """Where groups of a pool were asked for: groups with the place of their request, with what held
+    then."""
 
     __slots__ = ("pool", "places", "pairs", "exceptions", "states")
 
@@ -42,6 +42,7 @@ class Run:
     def __init__(self, plan, pools, pairs, exceptions, maps):
         self.plan, self.pools, self.pairs, self.exceptions = plan, list(pools), pairs, exceptions
         self.changed, self.side_of, sides = {}, {}, {}
+        self.batched = {it for it in self.pools if sum(map(len, pairs[it].values())) > MOST_PAIRS}
         for id_ in self.pools:
             texts = tuple(it.of[id_] for it in maps)
             if texts not in sides:
@@ -83,13 +84,14 @@ class Run:
         self.add(pool, change("/pools/exceptions", id=pool, exceptions=own))
 
     def ask_groups(self, asked, groups):
-        for it in groups:
-            asked.places.append((it, self.add(asked.pool, get(f"/pools/{asked.pool}/groups/{it}"))))
+        if groups:
+            request = Groups(asked.pool, groups)
+            asked.places.append((request.groups, self.add(asked.pool, request)))
         return asked
 
     def is_batched(self, pool):
         """Returns whether a pool has more pairs than crushcalc takes at once."""
-        return sum(map(len, self.pairs[pool].values())) > MOST_PAIRS
+        return pool in self.batched
 
     def lists(self, pool, groups, pairs=None, exceptions=None):
         """Asks where groups lie. More pairs than a pool may have are set part by part. `pairs` by
@@ -135,18 +137,31 @@ class Run:
 
     def take(self, side, replies):
         """Takes the replies of a tenant; a Fault where a request was refused."""
-        side.replies = [said for _, said in replies]
-        for request, (status, said) in zip(side.requests, replies):
-            if status not in (200, 201):
-                raise Fault(f"{self.plan.client.where} refuses {request.method} {request.path} of its own cluster: {status} {said}")
+        side.replies = []
+        for request, reply in zip(side.requests, replies):
+            if not isinstance(request, Groups):
+                status, reply = reply
+                if status not in (200, 201):
+                    raise refused(self.plan.client.where, request.method, request.path, status, reply)
+            side.replies.append(reply)
+        side.requests = None  # nothing is added to a run that was answered
 
     def reply(self, pool, place):
         return self.side_of[pool].replies[place]
 
     def placements(self, asked):
         """Returns where groups lie that were asked for."""
-        pool, replies, exceptions = self.plan.cluster.pools[asked.pool], self.side_of[asked.pool].replies, asked.exceptions
-        return {group: exceptions.settled(pool, group, replies[place], asked.pairs.get(group, ()), asked.states) for group, place in asked.places}
+        pool, exceptions, found = self.plan.cluster.pools[asked.pool], asked.exceptions, self.as_said(asked)
+        for group in list(found) if exceptions.affinity else exceptions.of(asked.pool) & found.keys():
+            found[group] = exceptions.settled(pool, group, found[group], asked.pairs.get(group, ()), asked.states)
+        return found
+
+    def as_said(self, asked):
+        """Returns where groups lie by what the service alone knows of."""
+        found = {}
+        for groups, place in asked.places:
+            found.update(zip(groups, self.reply(asked.pool, place)))
+        return found
 
     def counted(self, asked):
         """Returns the entries and the primaries of each device."""
@@ -154,11 +169,8 @@ class Run:
         for row in self.reply(asked.pool, asked.place)["rows"]:
             entries[row["device"]], primaries[row["device"]], groups[row["device"]] = row["entries"], row["primaries"], row["groups"]
         if asked.own:
-            replies = self.side_of[asked.pool].replies
-            for _, place in (asked.plain or asked.own).places:
-                count(entries, primaries, replies[place]["up"], replies[place]["primary"], -1)
-            for it in self.placements(asked.own).values():
-                count(entries, primaries, it.up, it.primary, 1)
+            count(entries, primaries, self.as_said(asked.plain or asked.own).values(), -1)
+            count(entries, primaries, self.placements(asked.own).values(), 1)
         return Usage(entries, primaries, asked.plain is None and entries != groups)
 
     def can_move(self, asked):
@@ -188,18 +200,19 @@ class Usage:
     def after(self, moves):
         """Returns the usage once moves are over: pairs of a placement before and after."""
         entries, primaries = dict(self.entries), dict(self.primaries)
-        for before, now in moves:
-            count(entries, primaries, before.up, before.primary, -1)
-            count(entries, primaries, now.up, now.primary, 1)
+        count(entries, primaries, (before for before, _ in moves), -1)
+        count(entries, primaries, (now for _, now in moves), 1)
         return Usage(entries, primaries, self.doubled)
 
 
-def count(entries, primaries, up, primary, sign):
-    for device in up:
-        if device is not None:
-            entries[device] = entries.get(device, 0) + sign
-    if primary is not None:
-        primaries[primary] = primaries.get(primary, 0) + sign
+def count(entries, primaries, placements, sign):
+    """Adds the entries and the primaries of placements, or takes them away."""
+    for it in placements:
+        for device in it.up:
+            if device is not None:
+                entries[device] = entries.get(device, 0) + sign
+        if it.primary is not None:
+            primaries[it.primary] = primaries.get(it.primary, 0) + sign
 
 
 def parts_of(pairs):

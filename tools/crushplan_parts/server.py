@@ -7,7 +7,7 @@ import time
 import urllib.parse
 
 from .faults import Fault
-from .service import SECONDS, numbered, read
+from .service import SECONDS, numbered, read, replies_of
 
 TRIES = 3  # of a message to a server
 LATE = 0.2  # seconds between the tries to drop a tenant whose making was interrupted
@@ -47,7 +47,7 @@ class Server:
             self.drop(tenant)
         except Fault:
             pass  # end() tries again
-        return replies
+        return replies_of(requests, replies, self.where)
 
     def drop(self, tenant):
         """Drops a tenant. One whose making was interrupted may be made a little later."""

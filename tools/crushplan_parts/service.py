@@ -8,9 +8,12 @@ import subprocess
 import threading
 
 from .faults import Fault
+from .settled import Placement
 
-JOBS = 4
+MOST_JOBS = 4  # programs side by side
+JOBS = min(MOST_JOBS, len(os.sched_getaffinity(0)) if hasattr(os, "sched_getaffinity") else os.cpu_count() or 1)
 SECONDS = 600  # as long as one run may take
+MOST_READ = 2_000  # replies that are read at once
 UNPROVED = "unproved"  # a word of the version of a program that was built without proofs
 
 
@@ -28,6 +31,17 @@ class Request:
         self.method, self.path, self.body = method, path, body
 
 
+class Groups:
+    """Asks where groups of a pool lie: a request for each, which together have one place, and as
+    their reply a list of placements."""
+
+    __slots__ = ("path", "groups")
+    method = "GET"
+
+    def __init__(self, pool, groups):
+        self.path, self.groups = f"/pools/{pool}/groups/", list(groups)
+
+
 def get(path):
     return Request("GET", path)
 
@@ -41,6 +55,9 @@ def numbered(requests):
     """Yields each request's method, path and body, with a number of its own in those that change
     something."""
     for place, it in enumerate(requests):
+        if isinstance(it, Groups):
+            yield from ((it.method, f"{it.path}{group}", None) for group in it.groups)
+            continue
         body = it.body
         if body is not None and it.path != "/test" and not it.path.endswith("/locate"):
             body = {"request": f"r{place}", **body}
@@ -60,6 +77,44 @@ def read(status, body, where):
     return status, said
 
 
+def replies_of(requests, replies, where):
+    """Returns the reply of each request: its status and what it says, or the placements of its
+    groups; a Fault where one of these is refused."""
+    found, left = [], iter(replies)
+    for it in requests:
+        found.append([placement(it, group, next(left), where) for group in it.groups] if isinstance(it, Groups) else next(left))
+    return found
+
+
+def placement(request, group, reply, where):
+    status, said = reply
+    if status != 200:
+        raise refused(where, request.method, f"{request.path}{group}", status, said)
+    return Placement(said["raw"], said["up"], said["primary"])
+
+
+def refused(where, method, path, status, said):
+    """Returns the Fault of a request that a cluster's own tenant doesn't take."""
+    return Fault(f"{where} refuses {method} {path} of its own cluster: {status} {said}")
+
+
+def placements_in(lines):
+    """Returns what replies for groups say, or None where not each of them is such a reply. They are
+    read together, and some at a time: each by itself would take twice as long, and all at once much
+    memory."""
+    found = []
+    for start in range(0, len(lines), MOST_READ):
+        part = lines[start : start + MOST_READ]
+        if not all(it.startswith(b"200 {") for it in part):
+            return None
+        try:
+            said = json.loads(b"[" + b",".join([it[4:] for it in part]) + b"]")
+            found += [Placement(it["raw"], it["raw"] if it["raw"] == it["up"] else it["up"], it["primary"]) for it in said]
+        except (ValueError, KeyError, TypeError):
+            return None
+    return found if len(found) == len(lines) else None
+
+
 class Script:
     """Plays `crushcalc script`."""
 
@@ -71,18 +126,32 @@ class Script:
 
     def run(self, requests):
         """Answers requests on a new tenant, in order."""
-        lines = ["PUT /t/plan"] + [f"{method} /t/plan{path}" + (f" {body}" if body else "") for method, path, body in numbered(requests)]
+        lines = ["PUT /t/plan", *(f"{method} /t/plan{path} {body}" if body else f"{method} /t/plan{path}" for method, path, body in numbered(requests))]
         try:
             ran = subprocess.run([self.program, "script"], input="\n".join(lines).encode() + b"\n", stdout=subprocess.PIPE, stderr=subprocess.PIPE, timeout=SECONDS)
         except OSError as error:
             raise Fault(f"{self.where} can't be run: {error.strerror or error}") from None
         except subprocess.TimeoutExpired:
             raise Fault(f"{self.where} hasn't answered within {SECONDS} seconds") from None
-        replies = ran.stdout.decode(errors="replace").splitlines()
+        replies = ran.stdout.splitlines()
         if ran.returncode != 0 or len(replies) != len(lines):
             said = ran.stderr.decode(errors="replace").strip().splitlines()[:1]
             raise Fault(f"{self.where} isn't a crushcalc that plays scripts, or it failed (status {ran.returncode}{': ' + said[0] if said else ''}; its version: {self.version()})")
-        return [read(int(line[:3]) if line[:3].isdigit() else 0, line[4:], self.where) for line in replies[1:]]
+        return self.read(requests, replies)
+
+    def read(self, requests, lines):
+        """Returns the replies to requests, which are the lines behind the first."""
+        found, at = [], 1
+        for it in requests:
+            size = len(it.groups) if isinstance(it, Groups) else 1
+            own, at = lines[at : at + size], at + size
+            said = placements_in(own) if isinstance(it, Groups) else None
+            found += [said] if said is not None else replies_of([it], [self.read_line(line) for line in own], self.where)
+        return found
+
+    def read_line(self, line):
+        status, body = line[:3], line[4:].decode(errors="replace")
+        return read(int(status) if status.isdigit() else 0, body, self.where)
 
     def end(self):
         """Does nothing: a script's tenant ends with its process."""

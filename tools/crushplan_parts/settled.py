@@ -104,13 +104,13 @@ class Exceptions:
         return items
 
     def settled(self, pool, group, said, pairs, states):
-        """Returns where a group lies of which the service says a rule's list, and the one that
-        upmap items leave of it."""
-        raw, up = said["raw"], said["up"]
+        """Returns where a group lies, of which `said` has the rule's list, and the one that upmap
+        items leave of it."""
+        raw, up = said.raw, said.up
         if group in self.lists.get(pool.id, ()) or group in self.primaries.get(pool.id, ()):
             items = self.items_of(pool, group, raw, pairs, lambda it: states(it).reweight > 0)
             works = [it if it is not None and states(it).up else None for it in items]
             up = works if pool.kind == "erasure" else [it for it in works if it is not None]
         elif not self.affinity:
-            return Placement(raw, up, said["primary"])
+            return said
         return Placement(raw, *led(pool, group, up, self.affinity))

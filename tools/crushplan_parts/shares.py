@@ -32,7 +32,7 @@ class Shares:
         return {device for _, parts, _ in self.blocks for device in parts} - self.gone
 
     def of(self, device):
-        return 0 if device in self.gone else sum(factor * parts.get(device, 0) for factor, parts in self.factors)
+        return 0 if device in self.gone else sum([factor * parts.get(device, 0) for factor, parts in self.factors])
 
 
 def blocks_of(rule, size):
@@ -67,7 +67,9 @@ def block_parts(map_, items, states):
         total = bucket.weight()
         for inner, weight in bucket.items:
             if weight and total:
-                descend(inner, over * weight, under * total)
+                more, below = over * weight, under * total
+                common = math.gcd(more, below)
+                descend(inner, more // common, below // common)
 
     for item in items:
         descend(item, 1, ONE)
@@ -79,20 +81,26 @@ class Expected:
     """What devices should have of several pools together."""
 
     def __init__(self):
-        self.wholes = {}  # how many copies are shared out by each of the shares
+        self.wholes, self.under = {}, None  # how many copies are shared out by each of the shares
 
     def add(self, shares, copies):
         key = id(shares)
-        self.wholes[key] = (shares, self.wholes.get(key, (shares, 0))[1] + copies)
+        self.wholes[key], self.under = (shares, self.wholes.get(key, (shares, 0))[1] + copies), None
 
     def of(self, device):
-        """Returns a fraction: what is above its line, and what is below."""
-        over, under = 0, 1
-        for shares, copies in self.wholes.values():
-            part = copies * shares.of(device)
-            if part:
-                over, under = over * shares.whole + part * under, under * shares.whole
-        return over, under
+        """Returns a fraction: what is above its line, and what is below, which is the same for all
+        devices."""
+        if self.under is None:
+            self.measure()
+        return sum([times * shares.of(device) for shares, times in self.times]), self.under
+
+    def measure(self):
+        """Finds what is below all lines, and by how much the part of each of the shares counts
+        above."""
+        under = math.prod(shares.whole for shares, _ in self.wholes.values())
+        times = [(shares, copies * (under // shares.whole)) for shares, copies in self.wholes.values()]
+        common = math.gcd(under, *(it for _, it in times))
+        self.times, self.under = [(shares, it // common) for shares, it in times], under // common
 
 
 def rounded(over, under, decimals):

@@ -35,12 +35,16 @@ class Stages:
 
     def keeper(self):
         # a device that a changed map brings counts as in and up, as it does for placement
-        return Keeper(self.map, lambda device: self.changed.get(device) or (self.plan.state(device) if device in self.plan.known else State()))
+        found = Keeper(self.map, lambda device: self.changed.get(device) or (self.plan.state(device) if device in self.plan.known else State()))
+        return found.knows_as(self.plan.keeper)
 
     def remove_pairs(self, pool, raws):
         """Takes away the pairs and lists that the monitors don't keep; `raws` are raw lists by
         group. Returns the groups of which others hold now."""
-        keeper, own, lists, found = self.keeper(), self.pairs[pool], self.lists[pool], []
+        own, lists, found = self.pairs[pool], self.lists[pool], []
+        if not own and not lists:
+            return found
+        keeper = self.keeper()
         for group, raw in raws.items():
             if group in own or group in lists:
                 old = (list(own.get(group, ())), lists.get(group))

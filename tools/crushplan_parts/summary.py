@@ -2,6 +2,7 @@
 how full devices are then. Sums and differences of what crushcalc answers, in whole numbers."""
 import collections
 import fractions
+import itertools
 import math
 
 from .faults import some
@@ -10,7 +11,7 @@ from .shares import Expected, Shares, percent, rounded
 
 def copies_in(up):
     """Returns how many copies a list has: devices, each once."""
-    return len({it for it in up if it is not None})
+    return len(set(up)) - (None in up)
 
 
 def written_anew(pool, old, new):
@@ -18,33 +19,43 @@ def written_anew(pool, old, new):
     places with another device, since each place has another part of the data."""
     if pool.kind == "erasure":
         return sum(it is not None and (place >= len(old) or old[place] != it) for place, it in enumerate(new))
-    return len({it for it in new if it is not None} - set(old))
+    found = set(new).difference(old)
+    return len(found) - (None in found)
 
 
-def bytes_anew(change, moves):
-    """Returns the bytes that moves of a pool write: groups with their up lists before and after."""
-    return change.bytes_of(sum(written_anew(change.pool, old, new) * change.pool.part_of(group) for group, old, new in moves))
+def bytes_anew(change, written):
+    """Returns the bytes that moves of a pool write: groups, each with its copies that are written
+    anew."""
+    _, twice = change.pool.parts()
+    return change.bytes_of(sum(2 * copies if group in twice else copies for group, copies in written))
 
 
 def gains(pool, moves):
-    """Returns of each device how many copies it gains by such moves, each by its group's part of
-    the pool's objects."""
-    found = collections.Counter()
+    """Returns of each device how many copies it gains by moves, groups with their up lists before
+    and after; those of a group with twice the objects count twice."""
+    found, (_, twice) = {}, pool.parts()
     for group, old, new in moves:
-        part = pool.part_of(group)
-        for sign, items in ((-part, old), (part, new)):
-            for device in items:
-                found[device] += sign
-    return found
+        count = 2 if group in twice else 1
+        for device in old:
+            found[device] = found.get(device, 0) - count
+        for device in new:
+            found[device] = found.get(device, 0) + count
+    return collections.Counter(found)
 
 
 class Moved:
-    """A group that lies elsewhere afterwards."""
+    """A group that lies elsewhere afterwards. `lacks` are the copies that have no device then."""
+
+    __slots__ = ("pool", "group", "before", "after", "copies", "lacks")
 
     def __init__(self, pool, group, before, after):
         self.pool, self.group, self.before, self.after = pool, group, before, after
         self.copies = written_anew(pool, before.up, after.up)
-        self.short = copies_in(after.up) < pool.size
+        self.lacks = pool.size - copies_in(after.up)
+
+    @property
+    def short(self):
+        return self.lacks > 0
 
     def said(self):
         return {
@@ -57,25 +68,26 @@ class PoolChange:
     """What a change does to one pool. `missing` are copies that have no device, afterwards and
     before; `short` the groups that lack some."""
 
-    def __init__(self, pool, before, can_move, moves, lists=None):
-        """Takes the usage before, the groups that can move, the moves, and the lists of all groups
-        before, if they were asked for."""
+    def __init__(self, pool, before, can_move, moves, lacking=None):
+        """Takes the usage before, the groups that can move, the moves, and what groups lack before,
+        by group, if it was asked for."""
         self.pool, self.before, self.can_move, self.moves = pool, before, can_move, moves
-        self.after = before.after([(it.before, it.after) for it in moves])
-        lacking = {group: pool.size - copies_in(it.up) for group, it in (lists or {}).items()}
-        self.short_before, self.missing_before = counts(lacking)
-        for it in moves:
-            lacking[it.group] = pool.size - copies_in(it.after.up)
-        self.short, self.missing = counts(lacking)
-        self.copies = sum(it.copies for it in moves)
-        lists = [(it.group, it.before.up, it.after.up) for it in moves]
-        self.bytes, self.gains = bytes_anew(self, lists), gains(pool, lists)
+        self.after, lacking = before.after([(it.before, it.after) for it in moves]), lacking or {}
+        self.short_before, self.missing_before = len(lacking), sum(lacking.values())
+        lacked = [lacking[it.group] for it in moves if it.group in lacking]
+        lacks = [it.lacks for it in moves if it.lacks > 0]
+        self.short = self.short_before - len(lacked) + len(lacks)
+        self.missing = self.missing_before - sum(lacked) + sum(lacks)
+        self.copies = sum([it.copies for it in moves])
+        self.bytes = bytes_anew(self, [(it.group, it.copies) for it in moves])
+        self.gains = gains(pool, [(it.group, it.before.up, it.after.up) for it in moves])
 
     def bytes_of(self, copies):
-        """Returns the bytes of so many copies, of which each has the same part of the pool's, or
-        None where these aren't known."""
+        """Returns the bytes of so many copies, of which those of groups with twice the objects
+        count twice, or None where these aren't known."""
+        (over, under), _ = self.pool.parts()
         total = self.before.total()
-        return None if self.pool.bytes is None or not total else fractions.Fraction(self.pool.bytes * copies, total)
+        return None if self.pool.bytes is None or not total else fractions.Fraction(self.pool.bytes * copies * over, total * under)
 
     def said(self):
         pool = self.pool
@@ -86,28 +98,47 @@ class PoolChange:
         }  # fmt: skip
 
 
-def counts(lacking):
-    return sum(it > 0 for it in lacking.values()), sum(it for it in lacking.values() if it > 0)
-
-
 def whole(value):
     """Returns a number of bytes rounded to whole ones, or None."""
     return None if value is None else round(value)
 
 
 class Device:
-    """How full a device is, before and after. Expected copies are fractions; bytes are the part of
-    the pools' bytes, and `used` the part of its room that is then used, as a fraction or None."""
+    """How full a device is, before and after. Expected copies are fractions, of what is above and
+    below a line; bytes are the part of the pools' bytes, and `used` the part of its room that is
+    then used, as a fraction or None. What few devices are asked for is computed when it is asked
+    for; `room` is what it holds before and after, and its size, by one measure, or None."""
 
-    def __init__(self, id_):
-        self.id, self.before, self.after = id_, 0, 0
-        self.expected_before, self.expected_after = (0, 1), (0, 1)
-        self.bytes_before = self.bytes_after = None
-        self.used_before = self.used_after = None
-        self.primaries_before = self.primaries_after = 0
+    __slots__ = ("id", "change", "before", "after", "room")
+
+    def __init__(self, id_, change, before, after, room):
+        self.id, self.change, self.before, self.after, self.room = id_, change, before, after, room
+
+    expected_before = property(lambda self: self.change.expected_before.of(self.id))
+    expected_after = property(lambda self: self.change.expected_after.of(self.id))
+    primaries_before = property(lambda self: sum(it.before.primaries.get(self.id, 0) for it in self.change.changes))
+    primaries_after = property(lambda self: sum(it.after.primaries.get(self.id, 0) for it in self.change.changes))
+    bytes_before = property(lambda self: self.change.bytes.of([it.before.entries.get(self.id, 0) for it in self.change.changes]))
+    bytes_after = property(lambda self: self.change.bytes.of([it.after.entries.get(self.id, 0) for it in self.change.changes]))
+    used_before = property(lambda self: self.room and fractions.Fraction(self.room[0], self.room[2]))
+    used_after = property(lambda self: self.room and fractions.Fraction(self.room[1], self.room[2]))
 
     def percent(self):
         return percent(self.after, self.expected_after)
+
+    def level(self):
+        """Returns how full it is afterwards, as a fraction that isn't shortened: the part of its
+        room that is used, or else of its share, or else its copies."""
+        if self.room:
+            return self.room[1:]
+        over, under = self.expected_after
+        return (self.after * under, over) if over else (self.after, 1)
+
+
+def bytes_after(devices):
+    """Returns the bytes of some devices of a change together afterwards, or None."""
+    shared = devices[0].change
+    return shared.bytes.of([sum([it.after.entries.get(of.id, 0) for of in devices]) for it in shared.changes])
 
 
 class Summary:
@@ -134,33 +165,40 @@ class Summary:
         """Returns the device that is fullest afterwards, or None, and those that are as full: by
         bytes where these are known, else by its copies against its share."""
         devices = [it for it in self.devices if it.after]
-        known = [it for it in devices if it.used_after is not None] or [it for it in devices if it.expected_after[0]] or devices
+        known = [it for it in devices if it.room] or [it for it in devices if it.expected_after[0]] or devices
         if not known:
             return None, []
-        most = max(map(fullness, known))
-        first, *others = [it for it in known if fullness(it) == most]
+        # a quotient of whole numbers is rounded the same way where they are equal, and never the
+        # other way round where they aren't, so that few have to be compared exactly
+        levels = [it.level() for it in known]
+        rounded_ = [over / under for over, under in levels]
+        most = max(rounded_)
+        found = [(fractions.Fraction(*level), it) for it, level, of in zip(known, levels, rounded_) if of == most]
+        most = max(level for level, _ in found)
+        first, *others = [it for level, it in found if level == most]
         return first, others
 
     def devices_past(self, name):
         """Returns the devices that are past a ratio of the cluster afterwards."""
-        return [it for it in self.devices if self.plan.cluster.is_past(name, it.used_after) and it.used_after > it.used_before]
+        limit = self.plan.cluster.ratios.get(name)
+        if limit is None:
+            return []
+        over, under = limit.as_integer_ratio()
+        return [it for it in self.devices if it.room and it.room[1] * under > over * it.room[2] and it.room[1] > it.room[0]]
 
     def looks_at_room(self):
-        """Returns whether the files say how full devices are, what pools take, and from which ratio
-        on Ceph writes no more copies to a device. Otherwise no device counts as full."""
-        cluster = self.plan.cluster
-        return "backfillfull_ratio" in cluster.ratios and bool(cluster.rooms) and any(it.bytes is not None for it in cluster.pools.values())
+        return looks_at_room(self.plan.cluster)
 
     def room_gap(self):
         """Returns what the files don't say of how full devices get, in words, or None; None too
         where they say nothing at all of it."""
-        gaining = [it for it in self.devices if any(change.gains[it.id] > 0 for change in self.changes)]
-        if not self.looks_at_room() or all(it.used_after is not None for it in gaining):
+        gaining = [it.id for it in self.devices if not it.room and any(change.gains[it.id] > 0 for change in self.changes)]
+        if not self.looks_at_room() or not gaining:
             return None
         pools = [it.pool.name for it in self.changes if it.pool.bytes is None]
         if pools:
             return f"df.json doesn't say what {'pool' if len(pools) == 1 else 'the pools'} {some(pools, 3)} {'takes' if len(pools) == 1 else 'take'}, and so not how full devices get"
-        return f"osd-df.json doesn't say how full {some([f'osd.{it.id}' for it in gaining if it.used_after is None], 3)} gets"
+        return f"osd-df.json doesn't say how full {some([f'osd.{it}' for it in gaining], 3)} gets"
 
     def knows_room(self):
         """Returns whether the files say how full each device gets that gets more."""
@@ -192,12 +230,10 @@ class Summary:
         }  # fmt: skip
 
 
-def fullness(it):
-    """Returns the part of a device's room that is used afterwards, or else of its share, or else
-    its copies."""
-    if it.used_after is not None:
-        return it.used_after
-    return fractions.Fraction(it.after * it.expected_after[1], it.expected_after[0]) if it.expected_after[0] else it.after
+def looks_at_room(cluster):
+    """Returns whether the files say how full devices are, what pools take, and from which ratio on
+    Ceph writes no more copies to a device. Otherwise no device counts as full."""
+    return "backfillfull_ratio" in cluster.ratios and bool(cluster.rooms) and any(it.bytes is not None for it in cluster.pools.values())
 
 
 def ratio_said(value):
@@ -221,17 +257,20 @@ def shares_of(plan, pool):
 
 class Bytes:
     """Bytes of copies of several pools, over one measure, so that sums of them are sums of whole
-    numbers."""
+    numbers. `parts` are bytes of copies of which those of groups with twice the objects count
+    twice."""
 
     def __init__(self, changes):
-        self.changes = changes
         self.is_known = bool(changes) and all(it.pool.bytes is not None for it in changes)
-        totals = [it.before.total() for it in changes]
-        self.measure = math.lcm(*(it or 1 for it in totals)) if changes else 1
-        self.each = [it.pool.bytes * (self.measure // of) if of else 0 for it, of in zip(changes, totals)] if self.is_known else []
+        totals = [(it.before.total(), it.pool.parts()[0]) for it in changes]
+        self.measure = math.lcm(*(count * under or 1 for count, (_, under) in totals))
+        self.each = [it.pool.bytes * (self.measure // count) if count else 0 for it, (count, _) in zip(changes, totals)] if self.is_known else []
+        self.parts = [each * over // under for each, (_, (over, under)) in zip(self.each, totals)]
 
     def of(self, copies):
-        """Returns the bytes of so many copies of each pool."""
+        """Returns the bytes of so many copies of each pool, or None where these aren't known."""
+        if not self.is_known:
+            return None
         return fractions.Fraction(sum(count * each for count, each in zip(copies, self.each) if count), self.measure)
 
 
@@ -243,7 +282,10 @@ class Levels:
         rooms, known = plan.cluster.rooms, bool(plan.pools) and all(it.bytes is not None for it in plan.pools.values())
         devices = [it for it in plan.tree.placed_devices() if it in plan.known and it in rooms and rooms[it].size > 0] if known else []
         self.used = {it: rooms[it].used_after() for it in devices}
-        self.order = sorted(devices, key=lambda it: (-self.used[it], it))
+        self.order, level = [], lambda it: rooms[it].used / rooms[it].size
+        # as in find_fullest() few are compared exactly
+        for _, own in itertools.groupby(sorted(devices, key=level, reverse=True), level):
+            self.order += sorted(own, key=lambda it: (-self.used[it], it))
 
     def fullest(self, changed, changes):
         """Returns the fullest devices that have copies and that nothing changes."""
@@ -256,36 +298,50 @@ class Levels:
         return found
 
 
+class Shared:
+    """What devices share whose copies change: the changes of pools, what is expected of each before
+    and after, and the bytes of copies."""
+
+    def __init__(self, plan, changes, gone, with_before):
+        self.changes, self.bytes = changes, Bytes(changes)
+        self.expected_before, self.expected_after, own = Expected(), Expected(), {}
+        for change in changes:
+            shares, key = shares_of(plan, change.pool), (change.pool.rule, change.pool.size)
+            own[key] = own.get(key) or (shares.without(gone) if gone else shares)
+            if with_before:
+                self.expected_before.add(shares, change.before.total())
+            self.expected_after.add(own[key], change.after.total())
+
+    def sums(self, which, devices):
+        """Returns the copies of devices over all pools, before or after."""
+        entries = [getattr(it, which).entries for it in self.changes]
+        if len(entries) == 1:
+            return [entries[0].get(it, 0) for it in devices]
+        return [sum([own.get(it, 0) for own in entries]) for it in devices]
+
+    def gained(self):
+        """Returns the bytes that devices gain, by the measure of bytes."""
+        found = {}
+        for change, each in zip(self.changes, self.bytes.parts):
+            for device, count in change.gains.items():
+                found[device] = found.get(device, 0) + count * each
+        return found
+
+
 def devices_of(plan, changes, gone=(), with_before=True, levels=None):
     """Returns each placed device with how full it is before and after; `gone` are down or out
     afterwards. By `levels` the devices alone that change, and of the others the fullest."""
     placed = plan.placed()
     if levels is not None and levels.order:
         changed = {it for change in changes for it in change.gains}
-        placed = sorted((changed & set(placed)) | set(levels.fullest(changed, changes)))
-    before, after, own, bytes_ = Expected(), Expected(), {}, Bytes(changes)
-    for change in changes:
-        shares, key = shares_of(plan, change.pool), (change.pool.rule, change.pool.size)
-        own[key] = own.get(key) or (shares.without(gone) if gone else shares)
-        if with_before:
-            before.add(shares, change.before.total())
-        after.add(own[key], change.after.total())
+        placed = sorted(changed.intersection(placed).union(levels.fullest(changed, changes)))
+    shared = Shared(plan, changes, gone, with_before)
+    rooms, gained, measure = plan.cluster.rooms if shared.bytes.is_known else {}, shared.gained(), shared.bytes.measure
     found = []
-    for id_ in placed:
-        it = Device(id_)
-        copies = [(change.before.entries.get(id_, 0), change.after.entries.get(id_, 0)) for change in changes]
-        it.before, it.after = sum(old for old, _ in copies), sum(new for _, new in copies)
-        it.primaries_before, it.primaries_after = sum(of.before.primaries.get(id_, 0) for of in changes), sum(of.after.primaries.get(id_, 0) for of in changes)
-        it.expected_before, it.expected_after = before.of(id_), after.of(id_)
-        if bytes_.is_known:
-            fill(plan, bytes_, it, copies)
-        found.append(it)
+    for id_, before, after in zip(placed, shared.sums("before", placed), shared.sums("after", placed)):
+        own, room = rooms.get(id_), None
+        if own and own.size > 0:
+            used = own.used * measure
+            room = max(used, 0), max(used + gained.get(id_, 0), 0), own.size * measure
+        found.append(Device(id_, shared, before, after, room))
     return found
-
-
-def fill(plan, bytes_, it, copies):
-    """Sets the bytes of a device, and how much of its room is used."""
-    it.bytes_before, it.bytes_after = (bytes_.of([of[place] for of in copies]) for place in (0, 1))
-    room = plan.cluster.rooms.get(it.id)
-    if room:
-        it.used_before, it.used_after = room.used_after(), room.used_after(bytes_.of([change.gains[it.id] for change in bytes_.changes]))

@@ -25,6 +25,12 @@ class Keeper:
         self.map, self.states = map_, states
         self.domains, self.weights, self.devices = {}, {}, {}
 
+    def knows_as(self, other):
+        """Takes what another keeper found of the same map, and returns itself."""
+        if self.map is other.map:
+            self.domains, self.weights, self.devices = other.domains, other.weights, other.devices
+        return self
+
     def may_be(self, device):
         return self.states(device).reweight > 0
 
@@ -112,11 +118,12 @@ class Keeper:
         """Returns the bucket of a type, below what a rule takes, in which each device is."""
         key = (rule.id, type_)
         if key not in self.domains:
-            found = self.domains[key] = {}
+            found = {}
             for root in sorted(set(rule.takes())):
                 for bucket in self.buckets_of_type(root, type_):
                     for device in self.devices_of(bucket):
                         found.setdefault(device, bucket)
+            self.domains[key] = found
         return self.domains[key]
 
     def buckets_of_type(self, item, type_):
@@ -140,7 +147,7 @@ class Keeper:
         """Returns the weight of each device below what a rule takes, level by level: the last place
         that has it counts, and a hole is osd.0 with the weight 0."""
         if rule.id not in self.weights:
-            found = self.weights[rule.id] = {}
+            found = {}
             for root in rule.takes():
                 own, queue = {}, [root]
                 if root >= 0:
@@ -154,4 +161,5 @@ class Keeper:
                             queue.append(item)
                 for device, weight in own.items():
                     found[device] = found.get(device, 0) + weight
+            self.weights[rule.id] = found
         return self.weights[rule.id]

@@ -1,10 +1,8 @@
 """`crushplan usage`: how much lies where, beside what weights and reweights ask for."""
-import fractions
-
 from .faults import Fault, nearest
 from .output import Answer, Table, devices_text, shown, sized
 from .shares import hundredths, percent, rounded
-from .summary import PoolChange, devices_of, whole
+from .summary import PoolChange, bytes_after, devices_of, whole
 from .reports import grouped, listed, sum_fractions
 
 
@@ -75,12 +73,12 @@ def extreme(row):
 
 def row_of(plan, type_, name, host, own):
     copies, expected = sum(it.after for it in own), sum_fractions(it.expected_after for it in own)
-    known = [it.bytes_after for it in own if it.bytes_after is not None]
+    bytes_ = bytes_after(own)
     room = plan.cluster.rooms.get(own[0].id) if type_ == 0 else None
     rooms = [plan.cluster.rooms[it.id] for it in own if it.id in plan.cluster.rooms]
     size = sum(it.size for it in rooms)
     return {
         "name": name, "device": own[0].id if type_ == 0 else None, "host": host or None, "copies": copies, "primaries": sum(it.primaries_after for it in own),
-        "share": rounded(*expected, 2), "percent": percent(copies, expected), "bytes": whole(sum(known, fractions.Fraction(0))) if known else None,
+        "share": rounded(*expected, 2), "percent": percent(copies, expected), "bytes": whole(bytes_),
         "used": rounded(sum(it.used for it in rooms), size, 4) if size else None,
     }  # fmt: skip

@@ -1,6 +1,7 @@
 """The text of a map for crushcalc: exact weights, and the buckets and rules alone that it is to
 have."""
 import decimal
+import functools
 import re
 
 from .crush_map import MOST_DEVICES, ONE
@@ -10,6 +11,7 @@ NAME = re.compile(r"[A-Za-z0-9_.-]{1,64}")
 KEYWORDS = {"tunable", "device", "type", "rule", "choose_args", "class"}
 
 
+@functools.lru_cache(maxsize=4096)
 def exact(weight):
     """Returns a weight of 65536ths with all its decimals, of which there are 16 at most."""
     text = f"{decimal.Decimal(weight) / ONE:f}"
