@@ -9,7 +9,7 @@ import tempfile
 import library
 from make_maps import HOST, ONE, OSD, RACK
 from osdmap import NONE, OsdMap
-from plan_clusters import compiled, removed_item
+from plan_clusters import allowing, compiled, removed_item
 
 COMMAND = re.compile(r"ceph osd (rm-pg-upmap-items|pg-upmap-items) (\d+)\.([0-9a-f]+)((?: \d+)*)")
 RATIOS = {"full_ratio": 0.95, "backfillfull_ratio": 0.9, "nearfull_ratio": 0.85}
@@ -213,7 +213,7 @@ class Ceph:
         class of the devices of a host."""
         drawn, map_ = self.cluster.drawn, self.cluster.map
         if self.alg("list", "straw", "tree", "uniform") and not self.cluster.removed:
-            text = re.sub("^\talg .*", "\talg straw2", map_.text(), flags=re.M)
+            text = re.sub("^\talg .*", "\talg straw2", allowing(map_.text()), flags=re.M)
             (self.folder / "straw2.txt").write_text(text)
             library.run(["crushtool", "-c", self.folder / "straw2.txt", "-o", self.folder / "straw2.bin"])
             yield self.changed("straw2.json", self.rebuilt(self.folder / "straw2.bin"))

@@ -144,10 +144,16 @@ def even_where(kind, items):
     return [(it, items[0][1]) for it, _ in items] if kind == "uniform" else items
 
 
+def allowing(text):
+    """A map's text by which new buckets are of straw2, as they are in clusters of today; without
+    that crushtool makes straw buckets."""
+    return text.replace("tunable choose_local_tries", "tunable allowed_bucket_algs 54\ntunable choose_local_tries", 1)
+
+
 def compiled(cluster, folder):
     """Returns the file of the cluster's map, once its devices are removed by crushtool."""
     text, path = pathlib.Path(folder) / "made.txt", pathlib.Path(folder) / "made.bin"
-    text.write_text(cluster.map.text())
+    text.write_text(allowing(cluster.map.text()))
     library.run(["crushtool", "-c", text, "-o", path])
     if " class " in text.read_text():
         # the trees of classes get rows of the weight sets, as a cluster makes them

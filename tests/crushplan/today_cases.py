@@ -82,6 +82,14 @@ def host_added(runner, folder):
     said = runner.said("compare", folder, folder / "new.json", "--groups", status=0)
     equals("a host more", moves(said), before.moves(after))
     wants({12, 13} <= {device for _, _, now in moves(said) for device in now}, "nothing lies on the new devices")
+    # where allowed_bucket_algs is an old release's, crushtool makes the new host a straw bucket
+    old_kind = copy.deepcopy(new)
+    old_kind["buckets"][-1]["alg"] = "straw"
+    (folder / "straw.json").write_text(json.dumps(old_kind))
+    said = runner.said("compare", folder, folder / "straw.json", "--groups", status=2)
+    equals("a straw host more", (said["answer"], said["groups"]), ("unknown: no pool can be computed.", []))
+    wants("are straw buckets (host-more)" in said["uncomputed"][0]["text"], said["uncomputed"])
+    equals("its rows", runner.run("compare", folder, folder / "straw.json", "--groups", "--csv")[1], "pool,group,id,before,after,primary_before,primary_after,copies\n")
     # the other way: the devices are there, and the map lacks them
     write(folder, new, osd_dump(14))
     (folder / "old.json").write_text(json.dumps(old))
