@@ -21,6 +21,7 @@ TYPES = {"replicated": 1, "erasure": 3}
 TYPE, SIZE, RULE, PG_NUM, PGP_NUM, FLAGS, MIN_SIZE = 0, 1, 2, 4, 8, 52, 64
 NONE = 2_147_483_647  # CRUSH_ITEM_NONE
 UPMAP_FORM = 9  # of the section of an encoded map for clients
+CRUSH_MAGIC = struct.pack("<I", 0x00010000)
 
 
 def checksums():
@@ -128,6 +129,21 @@ def with_upmaps(data, upmaps):
     return whole + struct.pack("<I", checksum(whole))
 
 
+def with_affinities(data, affinities, devices):
+    """The encoded map, which has no primary affinities, with these by device, in 65536ths."""
+    client_end = section_end(data, 6)
+    client = data[12:client_end]
+    # before the CRUSH map, which begins with its length and a number of its own, are the lists of
+    # pg_temp, of primary_temp and of affinities
+    place = client.index(CRUSH_MAGIC) - 8
+    if client[place - 8 : place + 4] != bytes(12) or client.count(CRUSH_MAGIC) != 1:
+        raise library.Failed("osdmaptool's map is of another form, or has affinities")
+    numbers = [devices, *(affinities.get(it, 65536) for it in range(devices))]
+    client = client[:place] + struct.pack(f"<{len(numbers)}I", *numbers) + client[place + 4 :]
+    whole = section(data[:2], section(data[6:8], client) + data[client_end:])[:-4]
+    return whole + struct.pack("<I", checksum(whole))
+
+
 def compiled(folder, text):
     """The file of a CRUSH map's text, compiled by crushtool."""
     path = pathlib.Path(folder) / "osdmap"
@@ -149,15 +165,19 @@ def simple(path, devices):
 
 class OsdMap:
     """A file in a folder with the OSD map of a CRUSH map's text, or of a compiled file, of pools
-    and of states. Without `read` it is for the caller to have it read once it is whole."""
+    of states and of primary affinities. Without `read` it is for the caller to have it read once it
+    is whole."""
 
-    def __init__(self, folder, text, pools, states, crush=None, read=True):
+    def __init__(self, folder, text, pools, states, crush=None, read=True, affinities=None):
         self.path = pathlib.Path(folder) / "osdmap"
         self.pools, self.states, self.upmaps = sorted(pools, key=lambda of: of["id"]), states, {}
         crush = crush or compiled(folder, text)
         simple(self.path, len(states))
         self.path.write_bytes(changed(self.path.read_bytes(), self.pools, states))
         library.run(["osdmaptool", self.path, "--import-crush", crush])
+        self.affinities = affinities or {}
+        if self.affinities:
+            self.path.write_bytes(with_affinities(self.path.read_bytes(), self.affinities, len(states)))
         self.bare = self.path.read_bytes()
         if read:
             self.read()
@@ -178,6 +198,8 @@ class OsdMap:
             raise library.Failed(f"osdmaptool reads other pools than {self.pools}")
         if [self.state_said(of) for of in said["osds"]] != [(of, *it) for of, it in enumerate(self.states)]:
             raise library.Failed(f"osdmaptool reads other states than {self.states}")
+        if {of["osd"]: round(of["primary_affinity"] * 65536) for of in said["osds"] if of["primary_affinity"] != 1} != self.affinities:
+            raise library.Failed(f"osdmaptool reads other affinities than {self.affinities}")
         items = {it["pgid"]: [(of["from"], of["to"]) for of in it["mappings"]] for it in said["pg_upmap_items"]}
         if items != {f"{pool}.{group:x}": list(pairs) for (pool, group), pairs in self.upmaps.items()}:
             raise library.Failed("osdmaptool reads other upmap items than were set")

@@ -7,9 +7,9 @@ import re
 import tempfile
 
 import library
-from make_maps import HOST, OSD, RACK
-from osdmap import OsdMap
-from plan_clusters import compiled, removed_item
+from make_maps import HOST, ONE, OSD, RACK
+from osdmap import NONE, OsdMap
+from plan_clusters import allowing, compiled, removed_item
 
 COMMAND = re.compile(r"ceph osd (rm-pg-upmap-items|pg-upmap-items) (\d+)\.([0-9a-f]+)((?: \d+)*)")
 RATIOS = {"full_ratio": 0.95, "backfillfull_ratio": 0.9, "nearfull_ratio": 0.85}
@@ -42,6 +42,8 @@ class Ceph:
         self.draw_upmaps()
         self.write_dumps()
         self.before = self.placements(self.start)
+        if any(cluster.ruleless):
+            self.write_pgs()
 
     def draw_upmaps(self):
         """Draws upmap items by the raw lists, and keeps those that the monitors keep."""
@@ -60,7 +62,7 @@ class Ceph:
         """The same by pool and group. Upmap items that the monitors don't keep are removed from the
         state first."""
         with tempfile.TemporaryDirectory() as folder:
-            map_ = OsdMap(folder, None, self.cluster.pools, state.states, state.crush, read=False)
+            map_ = OsdMap(folder, None, self.cluster.pools, state.states, state.crush, read=False, affinities=self.cluster.affinities)
             while True:
                 map_.set_upmaps(state.upmaps, read=False)
                 if not (clean and state.upmaps and self.removed_some(map_, state)):
@@ -94,6 +96,13 @@ class Ceph:
         (self.dumps / "crush.json").write_text(library.run(["crushtool", "-i", self.start.crush, "--dump"])[0])
         library.run(["crushtool", "-d", self.start.crush, "-o", self.dumps / "map.txt"])
 
+    def write_pgs(self):
+        """Writes where the groups of pools lie that can't be computed, as a cluster says it. Ceph
+        places nothing of a pool for which it finds no rule."""
+        none = lambda up: [NONE if it is None else it for it in up]
+        rows = [{"pgid": at, "state": "active+clean", "up": none(up), "up_primary": -1 if primary is None else primary, "acting": none(up), "acting_primary": -1 if primary is None else primary} for at, (_, up, primary) in self.before.items()]
+        (self.dumps / "pgs.json").write_text(json.dumps({"pg_stats": rows}))
+
     def edited(self, crush, *options):
         """The file of a map that crushtool has changed."""
         self.number += 1
@@ -126,12 +135,14 @@ class Ceph:
     def answers(self):
         """Draws what is asked, and what Ceph answers to it."""
         cluster, drawn = self.cluster, self.cluster.drawn
+        if cluster.ruleless:
+            return {"pools": cluster.pools, "before": self.before, "ruleless": cluster.ruleless, "maps": dict(self.changes()) if self.alg("straw") else {}}
         drains = cluster.drains or [[drawn.choice(cluster.names(HOST))], drawn.sample(cluster.names(OSD), 2)]
         if not cluster.drains and len(cluster.names(RACK)) > 2:
             drains.append([drawn.choice(cluster.names(RACK))])
         return {
             "pools": cluster.pools, "hosts": cluster.names(HOST), "types": ["host", "rack"] if cluster.names(RACK) else ["host"], "before": self.before,
-            "drains": [self.drain(names) for names in drains], "upmap": self.upmap(), "maps": dict(self.maps()), "locate": self.locate(),
+            "drains": [self.drain(names) for names in drains], "upmap": self.upmap(), "maps": {**dict(self.maps()), **dict(self.changes())}, "locate": self.locate(),
         }  # fmt: skip
 
     def drain(self, names):
@@ -194,11 +205,52 @@ class Ceph:
             library.run(["crushtool", "-c", self.dumps / "new.txt", "-o", self.folder / "rounded.bin"])
             yield "new.txt", elsewhere(self.before, self.placements(State(self.folder / "rounded.bin", self.start.states, self.start.upmaps)))
 
+    def alg(self, *algs):
+        return any(alg in algs for _, _, alg, _ in self.cluster.map.buckets)
+
+    def changes(self):
+        """More changed maps, as dumps: buckets made straw2; a host more, with two devices; another
+        class of the devices of a host."""
+        drawn, map_ = self.cluster.drawn, self.cluster.map
+        if self.alg("list", "straw", "tree", "uniform") and not self.cluster.removed:
+            text = re.sub("^\talg .*", "\talg straw2", allowing(map_.text()), flags=re.M)
+            (self.folder / "straw2.txt").write_text(text)
+            library.run(["crushtool", "-c", self.folder / "straw2.txt", "-o", self.folder / "straw2.bin"])
+            yield self.changed("straw2.json", self.rebuilt(self.folder / "straw2.bin"))
+        if self.alg("straw2") and not self.alg("tree", "uniform"):
+            yield self.changed("host.json", self.with_host(drawn), 2)
+        if hasattr(map_, "class_of"):
+            host = drawn.choice(self.cluster.names(HOST))
+            classes = {map_.class_of[it] for it in self.devices_below(host)}
+            class_ = drawn.choice(sorted({"hdd", "ssd"} - classes) or ["hdd", "ssd"])
+            yield self.changed("class.json", self.rebuilt(self.edited(self.start.crush, "--reclassify", "--set-subtree-class", host, class_)))
+
+    def rebuilt(self, crush):
+        """The map with the trees of classes made anew, as the monitors do after most changes."""
+        return self.edited(crush, "--rebuild-class-roots") if hasattr(self.cluster.map, "class_of") else crush
+
+    def with_host(self, drawn):
+        """The map with a host more, in a rack where there are some."""
+        crush, racks = self.start.crush, self.cluster.names(RACK)
+        place = [*(("rack", drawn.choice(racks)) if racks else ()), "root", self.cluster.map.item_name(-1)]
+        for device in range(self.cluster.map.devices, self.cluster.map.devices + 2):
+            weight = f"{drawn.choice((0.5, 1, 2.7285)):.5f}"
+            crush = self.edited(crush, "--add-item", device, weight, f"osd.{device}", "--loc", "host", "host-more", *(word for at in range(0, len(place), 2) for word in ("--loc", *place[at : at + 2])))
+        if hasattr(self.cluster.map, "class_of"):
+            crush = self.rebuilt(self.edited(crush, "--reclassify", "--set-subtree-class", "host-more", "hdd"))
+        return crush
+
+    def changed(self, name, crush, more=0):
+        """A changed map in a dump, with some devices more, and where the groups lie on it."""
+        (self.dumps / name).write_text(library.run(["crushtool", "-i", crush, "--dump"])[0])
+        states = self.start.states + [(ONE, True)] * more
+        return name, elsewhere(self.before, self.placements(State(crush, states, self.start.upmaps)))
+
     def locate(self):
         """Where objects of one pool lie."""
         pool = self.cluster.drawn.choice(self.cluster.pools)
         with tempfile.TemporaryDirectory() as folder:
-            map_ = OsdMap(folder, None, self.cluster.pools, self.start.states, self.start.crush)
+            map_ = OsdMap(folder, None, self.cluster.pools, self.start.states, self.start.crush, affinities=self.cluster.affinities)
             if self.start.upmaps:
                 map_.set_upmaps(self.start.upmaps)
             found = [(name, *map_.object_lies(pool["id"], name)) for name in OBJECTS]

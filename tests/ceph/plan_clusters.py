@@ -32,23 +32,24 @@ class PlanMap(Map):
         return [line for it in self.rules() for line in self.lines_of_rule(*it)]
 
 
-def pool(id_, rule, size, pg_num, *, pgp_num=None, hashpspool=True, min_size=None):
-    kind = ERASURE if rule in (1, 3) else REPLICATED
+def pool(id_, rule, size, pg_num, *, kind=None, pgp_num=None, hashpspool=True, min_size=None):
+    """A pool; its kind is that of its rule, which is one of PlanMap where no kind is given."""
     return {
-        "id": id_, "kind": kind, "size": size, "rule": rule, "pg_num": pg_num, "pgp_num": pgp_num or pg_num, "hashpspool": hashpspool, "name": f"pool-{id_}",
+        "id": id_, "kind": kind or (ERASURE if rule in (1, 3) else REPLICATED), "size": size, "rule": rule, "pg_num": pg_num, "pgp_num": pgp_num or pg_num, "hashpspool": hashpspool, "name": f"pool-{id_}",
         "min_size": min_size or max(1, size - 1),
     }  # fmt: skip
 
 
 class Cluster:
     """A cluster before Ceph is asked. `removed` are devices that crushtool takes out of the map,
-    `upmaps` how many groups get upmap items, `changes` how often the map of `compare` differs."""
+    `upmaps` how many groups get upmap items, `affinities` the primary affinities in 65536ths that
+    aren't 1, by device; `ruleless` are pools that can't be computed."""
 
-    def __init__(self, name, map_, pools, *, states=None, removed=(), upmaps=0, drains=None, seed=0):
+    def __init__(self, name, map_, pools, *, states=None, removed=(), upmaps=0, drains=None, affinities=None, ruleless=(), seed=0):
         self.name, self.map, self.pools, self.removed, self.upmaps = name, map_, sorted(pools, key=lambda it: it["id"]), removed, upmaps
         self.drawn = random.Random(f"{name} {seed}")
         self.states = states or [(ONE, True)] * map_.devices
-        self.drains = drains
+        self.drains, self.affinities, self.ruleless = drains, affinities or {}, ruleless
 
     def names(self, level):
         """Names of the buckets of a level, or of the devices that are still there."""
@@ -143,10 +144,16 @@ def even_where(kind, items):
     return [(it, items[0][1]) for it, _ in items] if kind == "uniform" else items
 
 
+def allowing(text):
+    """A map's text by which new buckets are of straw2, as they are in clusters of today; without
+    that crushtool makes straw buckets."""
+    return text.replace("tunable choose_local_tries", "tunable allowed_bucket_algs 54\ntunable choose_local_tries", 1)
+
+
 def compiled(cluster, folder):
     """Returns the file of the cluster's map, once its devices are removed by crushtool."""
     text, path = pathlib.Path(folder) / "made.txt", pathlib.Path(folder) / "made.bin"
-    text.write_text(cluster.map.text())
+    text.write_text(allowing(cluster.map.text()))
     library.run(["crushtool", "-c", text, "-o", path])
     if " class " in text.read_text():
         # the trees of classes get rows of the weight sets, as a cluster makes them

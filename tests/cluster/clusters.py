@@ -1,5 +1,6 @@
-"""The clusters that are foretold: CRUSH maps of list, tree, uniform and mixed buckets, and those
-that Ceph makes by itself, of straw2 buckets; their pools and objects, all drawn from a seed."""
+"""The clusters that are foretold: CRUSH maps of list, tree, uniform, mixed and straw buckets, and
+those that Ceph makes by itself, of straw2 buckets; their pools and objects, all drawn from a
+seed."""
 import copy
 import pathlib
 import sys
@@ -15,6 +16,7 @@ KINDS = {
     "tree": ("tree", "tree", "tree"),
     "uniform": ("uniform", "uniform", "uniform"),
     "mixed": ("list", "tree", "uniform"),
+    "straw": ("straw", "straw", "straw"),
     **dict.fromkeys(("straw2", "classes", "weights"), ("straw2", "straw2", "straw2")),
 }
 # of the kinds whose maps Ceph makes by itself the mode of its balancer; those that have one have
@@ -23,6 +25,7 @@ OWN = {"straw2": None, "classes": "upmap", "weights": "crush-compat"}
 CLASSES = ("hdd", "hdd", "ssd")  # of the devices of each host, in turn
 RACKS, HOSTS = 3, 2
 OSDS = (12, 18, 24)
+LARGE = 24  # so many devices have many groups and few objects
 PROFILE = ["k=2", "m=2", "plugin=jerasure", "technique=reed_sol_van"]
 # the id of each pool is its place, from 1 on; the size of an erasure pool is that of its profile
 POOLS = (
@@ -36,11 +39,13 @@ POOLS = (
 # roots: there the rule over racks has a class too
 OWN_RULES = {"hosts": ("host", "hdd"), "racks": ("rack", None), "hosts-of-parts": ("host", "hdd"), "devices": ("osd", "ssd")}
 OWN_POOLS = (*POOLS[:3], {**POOLS[3], "rule": "devices", "size": 3})
+LARGE_POOLS = {"even": 512, "racks": 256, "parts": 250, "pairs": 518}  # the numbers of groups
 ODD_NAMES = ("with a blank", "a/b\\c\"d'e", "ä, 名前, 🦀", "0", "n" * 300)
 # pools whose groups have the same number of objects of one size: how many, and their bytes
 EVEN = {"even": (30, 4096), "parts": (20, 8192)}
 OBJECTS, LARGEST, ALIKE = 800, 30_000, "pairs"  # of the other pools; in one of them all are of one size
-FEWER = 4  # Ceph's own maps have a quarter of these objects
+FEWER = 4  # Ceph's own maps have a quarter of these objects, and a twentieth with many groups
+FEWEST = 20
 
 
 class Planned(Map):
@@ -79,6 +84,12 @@ class Layout:
         bucket(root, ROOT, [bucket(rack, RACK, [bucket(host, HOST, of) for of in hosts]) for hosts in self.racks], -1)
         return map_
 
+    def of_kind(self, kind):
+        """Returns the same layout with buckets of another kind."""
+        other = copy.deepcopy(self)
+        other.kind = kind
+        return other
+
     def changed(self, choice):
         """Returns a layout in which a device is in another host, and two have another weight."""
         other = copy.deepcopy(self)
@@ -105,8 +116,10 @@ class Layout:
         return {device: (*of[device], weight) for rack in self.racks for host in rack for device, weight in host}
 
 
-def pools(kind):
-    return OWN_POOLS if kind in OWN else POOLS
+def pools(kind, osds):
+    """Returns the pools of a cluster of so many devices."""
+    found = OWN_POOLS if kind in OWN else POOLS
+    return tuple({**it, "pg_num": LARGE_POOLS[it["pool"]], "pgp_num": LARGE_POOLS[it["pool"]]} for it in found) if osds == LARGE else found
 
 
 def class_of(kind, device):
@@ -124,10 +137,10 @@ def weight(choice):
     return choice.randrange(ONE // 2, 2 * ONE)
 
 
-def objects(choice, kind):
+def objects(choice, kind, osds):
     """Returns the objects of each pool: names with their bytes."""
-    found, part = {}, FEWER if kind in OWN else 1
-    for pool in pools(kind):
+    found, part = {}, FEWEST if osds == LARGE else FEWER if kind in OWN else 1
+    for pool in pools(kind, osds):
         name, groups = pool["pool"], pool["pg_num"]
         if name in EVEN:
             each, size = EVEN[name]

@@ -1,6 +1,8 @@
 """What crushplan foretold of a step, beside what the cluster then did. `compared` yields each
 comparison of a recorded step (steps.py): what was compared, and why it differs, or None."""
 import collections
+import concurrent.futures
+import hashlib
 import json
 import pathlib
 import subprocess
@@ -9,6 +11,7 @@ import steps
 
 CRUSHPLAN = pathlib.Path(__file__).resolve().parent.parent.parent / "tools" / "crushplan"
 ERASURE = 3
+JOBS = 4
 SECONDS = 300
 
 
@@ -24,10 +27,14 @@ class Step:
         self.record = steps.read(folder)
         self.pools = self.record["pools"]
         self.before, self.stages = self.record["before"], [it["groups"] for it in self.record["stages"]]
+        self.drains = {tuple(it["names"]): it["groups"] for it in self.record.get("drains", ()) if "groups" in it}
+        self.kept = {tuple(it["names"]): it for it in self.record.get("drains", ()) if "groups" not in it}
 
-    def foretold(self, *words):
-        """Returns the object of JSON that crushplan writes for a command on the folder."""
+    def foretold(self, *words, kinds=()):
+        """Returns the object of JSON that crushplan writes for a command on the folder. What isn't
+        computed may be of some kinds."""
         command, *rest = [str(self.folder / it[7:]) if it.startswith("FOLDER/") else it for it in words]
+        rest += self.record.get("more", [])
         ran = subprocess.run([str(CRUSHPLAN), command, str(self.folder), *rest, "--json", "--program", self.program], stdin=subprocess.DEVNULL, stdout=subprocess.PIPE, stderr=subprocess.PIPE, timeout=SECONDS)
         try:
             said = json.loads(ran.stdout)
@@ -37,14 +44,18 @@ class Step:
             raise Unsaid(f"crushplan {' '.join(words)}: {said['error']}")
         if said["status"] != ran.returncode:
             raise Unsaid(f"crushplan {' '.join(words)}: exit status {ran.returncode}, and its JSON says {said['status']}")
-        if said["uncomputed"]:
+        if said["uncomputed"] and not all(it["kind"] in kinds for it in said["uncomputed"]):
             raise Unsaid(f"crushplan {' '.join(words)}: not computed: {said['uncomputed']}")
         return said
 
     def moved(self):
         """Returns how many groups the cluster moved, in all stages."""
         lists = [self.before, *self.stages]
-        return sum(len(moved_between(*it)) for it in zip(lists, lists[1:]))
+        return sum(it["moved"] for it in self.kept.values()) + sum(len(moved_between(*it)) for it in (*zip(lists, lists[1:]), *((self.before, it) for it in self.drains.values())))
+
+    def drained(self):
+        """Returns how many drains it has."""
+        return len(self.drains) + len(self.kept) + (self.record["words"][0] == "drain")
 
     def pool(self, group):
         return self.pools[int(group.split(".")[0])]
@@ -100,7 +111,7 @@ def compared(step):
     """Yields each comparison of a step."""
     command, *names = step.record["words"]
     yield from COMMANDS[step.record.get("by", command)](step, step.foretold(command, *names))
-    said = step.foretold("check")
+    said = step.foretold("check", kinds=("straw",))
     yield "holes of tree buckets", same(said["holes"], step.record["holes"])
     if said["lying"]["by"] == "pgs.json":
         yield "the groups that lie as computed by the cluster's own word", same((said["lying"]["same"], said["lying"]["others"]), (said_groups(step), []))
@@ -176,19 +187,63 @@ def summed(step, said, groups):
 def drain(step, said):
     """Compares devices out, then ended, then perhaps removed from the map."""
     out, ended, *purged = step.stages
-    yield from moves(step, said["groups"], out)
-    yield from summed(step, said, out)
+    yield from drained(step, said, out)
     short = {it for it, of in out.items() if step.is_short(it, of["up"])}
-    yield f"{len(short)} groups without room stay where they are", short_of_cluster(step, short, out, step.before)
     yield "undersized for good, once these end, are the groups without room", short_of_cluster(step, short, ended, step.before, True)
     yield "no more moves once they end", same(set(), moved_between(out, ended))
-    yield "exit status", same(said["status"], 1 if short else 0)
     if purged:
         moved = {it: (ended[it]["up"], purged[0][it]["up"]) for it in moved_between(ended, purged[0])}
         yield f"{len(moved)} groups that purge moves", same({it["id"]: (it["before"], it["after"]) for it in said["purge"]["groups"]}, moved)
         yield "copies that purge writes", same((said["purge"]["moved"], said["purge"]["copies"]), moved_and_copies(step, ended, purged[0]))
     if "stores" in step.record:
         yield from stores(step, ended)
+
+
+def drained(step, said, out):
+    """Compares devices out."""
+    yield from moves(step, said["groups"], out)
+    yield from summed(step, said, out)
+    short = {it for it, of in out.items() if step.is_short(it, of["up"])}
+    yield f"{len(short)} groups without room stay where they are", short_of_cluster(step, short, out, step.before)
+    yield "exit status", same(said["status"], 1 if short else 0)
+
+
+def drains(step, _):
+    """Compares drains, each of the cluster as it was before."""
+    for names, out in step.drains.items():
+        for what, why in drained(step, step.foretold("drain", *names, "--groups"), out):
+            yield f"drain {' '.join(names)}: {what}", why
+
+
+def kept_drains(step, _):
+    """Compares kept drains by their numbers and sums."""
+    with concurrent.futures.ThreadPoolExecutor(JOBS) as jobs:
+        answers = jobs.map(lambda names: step.foretold("drain", *names, "--groups"), step.kept)
+        for (names, it), said in zip(step.kept.items(), answers):
+            short = said["short"]["groups"]
+            here = {"moved": said["moved"], "copies": said["copies"], "short": short, "sum": sum_of(said["groups"])}
+            yield f"drain {' '.join(names)}: {it['moved']} groups moved, and their lists and primaries", same(here, {key: of for key, of in it.items() if key != "names"})
+            yield f"drain {' '.join(names)}: exit status", same(said["status"], 1 if it["short"] else 0)
+
+
+def sum_of(groups):
+    """Returns a checksum of groups that move: their ids, lists and primaries before and after."""
+    lines = [json.dumps([it[of] for of in ("id", "before", "after", "primary_before", "primary_after")]) for it in groups]
+    return hashlib.sha256("\n".join(sorted(lines)).encode()).hexdigest()[:16]
+
+
+def kept(step):
+    """Returns the record of a step of drains with sums in the place of groups, by what the cluster
+    did."""
+    found = []
+    for names, out in step.drains.items():
+        moved = moved_between(step.before, out)
+        both = {it: (step.before[it], out[it]) for it in moved}
+        groups = [{"id": it, "before": old["up"], "after": new["up"], "primary_before": old["primary"], "primary_after": new["primary"]} for it, (old, new) in both.items()]
+        copies = sum(step.written(it, old["up"], new["up"]) for it, (old, new) in both.items())
+        short = sum(step.is_short(it, of["up"]) for it, of in out.items())
+        found.append({"names": list(names), "moved": len(moved), "copies": copies, "short": short, "sum": sum_of(groups)})
+    return {**{key: it for key, it in step.record.items() if key in ("kind", "seed", "words", "pools", "holes")}, "by": "kept drains", "before": {}, "stages": [], "drains": found}
 
 
 def short_of_cluster(step, short, groups, before, ended=False):
@@ -260,6 +315,14 @@ def compare(step, said):
     yield "groups and copies in all", same((said["moved"], said["copies"]), moved_and_copies(step, step.before, after))
 
 
+def converted(step, said):
+    """Compares a map of straw buckets that becomes one of straw2 buckets, and how crushplan says
+    that it can't compute the first."""
+    yield from compare(step, said)
+    check = step.foretold("check", kinds=("straw",))
+    yield "no pool of straw buckets can be computed", same((check["status"], {it["computed"] for it in check["pools"]}), (2, {False}))
+
+
 def weight(step, said):
     """Compares a device of the CRUSH weight 0, then ended, then removed from the map."""
     weighed, ended, purged = step.stages
@@ -272,4 +335,6 @@ def weight(step, said):
     yield "no more moves once it ends", same(set(), moved_between(weighed, ended))
 
 
-COMMANDS = {"usage": usage, "drain": drain, "fail": fail, "upmap": upmap, "compare": compare, "weight": weight}
+COMMANDS = {
+    "usage": usage, "drain": drain, "drains": drains, "kept drains": kept_drains, "fail": fail, "upmap": upmap, "compare": compare, "converted": converted, "weight": weight,
+}  # fmt: skip

@@ -86,7 +86,7 @@ NONE = 2147483647
 MODULES = pathlib.Path("/usr/share/ceph/mgr")  # of the manager
 MAPPED = re.compile(r"(\d+)\.([0-9a-f]+) raw \(\[[^]]*\], p-?\d+\) up \(\[([^]]*)\], p-?\d+\) acting \(\[([^]]*)\], p-?\d+\)")
 PERIOD = 1.2  # seconds: a little more than OSDs wait between two reports
-PATIENCE = 300  # seconds for what takes a few on a machine that does nothing else
+PATIENCE = 900  # seconds for what takes a few on a machine that does nothing else
 
 
 class Failed(Exception):
@@ -296,6 +296,16 @@ class Cluster:
             if it:
                 found[int(it[1]), int(it[2], 16)] = tuple([none_or(int(device)) for device in of.split(",") if device] for of in (it[3], it[4]))
         return found
+
+    def placed(self):
+        """Returns the groups once the OSDs have the up lists of the newest map, whether objects
+        still move or not."""
+
+        def found():
+            groups, mapped = self.groups(), self.mapped()
+            return groups if {key: it["up"] for key, it in groups.items()} == {key: up for key, (up, _) in mapped.items()} else None
+
+        return awaited(found, "the lists of the newest map")
 
     def settled(self):
         """Returns the groups once none is at work, and the OSDs have the lists of the newest map,

@@ -4,13 +4,17 @@ and after.
 
 step.json has "words", the words of crushplan, in which FOLDER is the step's; "pools"; "holes" of
 tree buckets; "before", the groups; "stages", what was done, each with the groups once the cluster
-had settled; and what a step has beside: "by", the comparison, where that isn't its command's.
+had settled; and what a step has beside: "by", the comparison, where that isn't its command's;
+"more", words of crushplan's every command; "drains", each from the same state, with the devices'
+names and the groups that were then otherwise. Where drains are kept, of each there is a sum of
+these in their place.
 """
 import json
 import random
 
 import clusters
 import real
+from clusters import CLASSES
 from make_maps import ONE, weight_text
 
 DUMPS = {
@@ -23,11 +27,15 @@ class Story:
     """A cluster of a kind, and its steps."""
 
     def __init__(self, cluster, kind, seed, folder):
-        self.cluster, self.kind, self.folder, self.count = cluster, kind, folder, 0
+        self.cluster, self.kind, self.seed, self.folder, self.count = cluster, kind, seed, folder, 0
         self.choice = random.Random(f"{kind} {seed}")
         self.layout = clusters.Layout(kind, cluster.osds, self.choice)
-        self.objects, self.pools = clusters.objects(self.choice, kind), clusters.pools(kind)
+        self.objects, self.pools = clusters.objects(self.choice, kind, cluster.osds), clusters.pools(kind, cluster.osds)
         self.left, self.holes = set(range(cluster.osds)), []
+
+    def hosts(self):
+        """Returns the name of each host, with its rack's name and its devices."""
+        return self.layout.hosts()
 
     def prepare(self):
         """Gives the cluster its map, pools, reweights and objects."""
@@ -87,7 +95,9 @@ class Story:
             does()
             done.append({"done": said, "groups": self.cluster.settled()})
         pools = {it["pool"]: {key: it[key] for key in ("pool_name", "size", "min_size", "type", "pg_num")} for it in self.cluster.asked("osd dump")["pools"]}
-        record = {"kind": self.kind, "words": words, "pools": pools, "holes": holes, "before": before, "stages": done, **{key: it() if callable(it) else it for key, it in more.items()}}
+        if "drains" in more:
+            more["drains"] = more["drains"](before)
+        record = {"kind": self.kind, "seed": self.seed, "words": words, "pools": pools, "holes": holes, "before": before, "stages": done, **{key: it() if callable(it) else it for key, it in more.items()}}
         (folder / "step.json").write_text(text_of(record))
         return folder
 
@@ -124,7 +134,7 @@ class Story:
         return "ceph osd purge " + " ".join(map(str, devices)), purge
 
     def devices_of(self, *names):
-        return [device for host, rack, devices in self.layout.hosts() for device in devices if device in self.left and {host, rack, f"osd.{device}"} & set(names)]
+        return [device for host, rack, devices in self.hosts() for device in devices if device in self.left and {host, rack, f"osd.{device}"} & set(names)]
 
     # ---- the steps
 
@@ -132,6 +142,9 @@ class Story:
         """Yields the folder of each step, once it is done."""
         self.prepare()
         yield self.located()
+        if self.kind == "list":
+            for kind in ("straw2", "list"):
+                yield self.made_of(kind)
         yield self.failure()
         yield self.upmaps()
         yield self.map_changed()
@@ -154,17 +167,21 @@ class Story:
     def failure(self):
         """Ends a rack, or two hosts of different racks, puts them out, and has them come back."""
         if self.choice.random() < 0.5:
-            names = [self.choice.choice(self.layout.hosts())[1]]
+            names = [self.choice.choice(self.hosts())[1]]
         else:
-            names = [self.choice.choice([host for host, of, _ in self.layout.hosts() if of == rack]) for rack in self.choice.sample(sorted({it[1] for it in self.layout.hosts()}), 2)]
+            names = self.hosts_of_two_racks()
         devices = self.devices_of(*names)
         return self.step("fail", ["fail", *names, "--groups"], self.ended(devices), self.out(devices), self.back(devices))
+
+    def hosts_of_two_racks(self):
+        racks = self.choice.sample(sorted({it[1] for it in self.hosts()}), 2)
+        return [self.choice.choice([host for host, of, _ in self.hosts() if of == rack]) for rack in racks]
 
     def upmaps(self):
         """Sends upmap items of some two dozen groups: a device of the list for another of the same
         host, or of a host that the list doesn't have, in the rack of the first."""
         groups = self.cluster.groups()
-        place = {device: (rack, host) for host, rack, devices in self.layout.hosts() for device in devices}
+        place = {device: (rack, host) for host, rack, devices in self.hosts() for device in devices}
         items = {}
         for key in self.choice.sample(sorted(groups), 24):
             up = [it for it in groups[key]["up"] if it is not None]
@@ -185,6 +202,11 @@ class Story:
         layout = self.layout.changed(self.choice)
         return self.step("compare", ["compare", "FOLDER/new.txt", "--groups"], ("ceph osd setcrushmap", lambda: self.set_map(layout)), files={"new.txt": layout.map().text()})
 
+    def made_of(self, kind):
+        """Sets the same map with buckets of another kind."""
+        layout = self.layout.of_kind(kind)
+        return self.step(kind, ["compare", "FOLDER/new.txt", "--groups"], ("ceph osd setcrushmap", lambda: self.set_map(layout)), files={"new.txt": layout.map().text()})
+
     def class_of(self, device):
         return clusters.class_of(self.kind, device)
 
@@ -194,7 +216,7 @@ class Story:
     def host_drained(self, other):
         """Drains another host than this; then ends every process, and counts what the stores of
         the others hold."""
-        host = self.choice.choice([it[0] for it in self.layout.hosts() if it[0] != other])
+        host = self.choice.choice([it[0] for it in self.hosts() if it[0] != other])
         devices = self.devices_of(host)
         return self.step("drain", ["drain", host, "--groups"], self.out(devices), self.ended(devices), stores=lambda: self.stores())
 
@@ -205,8 +227,41 @@ class Story:
         return {it: self.cluster.stored(it) for it in left}
 
 
+class StrawStory(Story):
+    """A cluster of straw buckets, of which Ceph makes straw2 ones."""
+
+    def all(self):
+        self.prepare()
+        yield self.converted()
+        self.layout = self.layout.of_kind("straw2")
+        yield self.located()
+        yield self.upmaps()
+        yield self.map_changed()
+        yield self.host_drained(None)
+
+    def converted(self):
+        """Has Ceph convert the buckets. As straw buckets can't be computed, crushplan takes the
+        groups from where the cluster says that they lie."""
+        new = json.loads(self.cluster.told("osd crush dump", format="json"))
+        for it in new["buckets"]:
+            it["alg"] = "straw2"
+
+        def convert():
+            self.cluster.told("osd crush set-all-straw-buckets-to-straw2")
+            if json.loads(self.cluster.told("osd crush dump", format="json"))["buckets"] != new["buckets"]:
+                raise real.Failed("the converted map has other buckets than the same ones of straw2")
+
+        return self.step("convert", ["compare", "FOLDER/new.json", "--groups"], ("ceph osd crush set-all-straw-buckets-to-straw2", convert), files={"new.json": json.dumps(new)}, by="converted")
+
+
 class OwnStory(Story):
     """A cluster whose map Ceph makes by itself, by its commands alone."""
+
+    def hosts(self):
+        nodes = {it["id"]: it for it in self.cluster.asked("osd tree")["nodes"]}
+        racks = sorted((it for it in nodes.values() if it["type"] == "rack"), key=lambda it: it["name"])
+        hosts = [(nodes[id_], rack["name"]) for rack in racks for id_ in sorted(rack["children"])]
+        return [(it["name"], rack, sorted(it["children"])) for it, rack in hosts if it["children"]]
 
     def prepare(self):
         told, mode = self.cluster.told, clusters.OWN[self.kind]
@@ -241,9 +296,15 @@ class OwnStory(Story):
         yield self.upmaps()
         yield self.map_changed()
         yield self.reweighted()
-        devices = self.choice.sample(sorted(self.left), 2)
+        if self.cluster.osds == clusters.LARGE:
+            yield self.drained_in_turn()
+        devices = self.choice.sample(sorted(self.left), 3)
         yield self.device_removed(devices[0])
         yield self.weight_first(devices[1])
+        yield self.unplaced(devices[2])
+        yield self.host_added(devices[2])
+        if mode:
+            yield self.class_given(devices[2])
         yield self.host_drained(None)
 
     # ---- changed maps
@@ -280,9 +341,31 @@ class OwnStory(Story):
         said = f"ceph osd crush reweight osd.{device} {weight_text(weight)}"
         return self.compared("reweight", said, lambda: self.cluster.told("osd crush reweight", name=f"osd.{device}", weight=weight / ONE), dump)
 
-    def compared(self, name, said, does, dump=None):
+    def unplaced(self, device):
+        """Takes a device out of the map, which stays up and in."""
+        return self.compared("unplace", f"ceph osd crush rm osd.{device}", lambda: self.cluster.told("osd crush rm", name=f"osd.{device}"))
+
+    def host_added(self, device):
+        """Sets a map in which crushtool has added a host with the device that is in none."""
+        rack, weight = self.choice.choice(self.hosts())[1], clusters.weight(self.choice)
+        place = (word for it in self.location("host-more", rack) for word in ("--loc", *it.split("=")))
+        compiled, dump = self.edited(("--add-item", str(device), weight_text(weight), f"osd.{device}", *place))
+        said = f"crushtool --add-item {device} {weight_text(weight)} osd.{device}, ceph osd setcrushmap"
+        return self.compared("add", said, lambda: self.cluster.told("osd setcrushmap", given=compiled), dump, more=["--allow-unplaced"])
+
+    def class_given(self, device):
+        """Gives a device without a class one, and takes another's for a new one."""
+        other = self.choice.choice([it for it in sorted(self.left) if it != device and self.class_of(it) == CLASSES[0]])
+
+        def change():
+            self.cluster.told("osd crush rm-device-class", ids=[str(other)])
+            self.cluster.told("osd crush set-device-class", **{"class": CLASSES[-1]}, ids=[str(device), str(other)])
+
+        return self.compared("class", f"ceph osd crush rm-device-class {other}, set-device-class {CLASSES[-1]} {device} {other}", change)
+
+    def compared(self, name, said, does, dump=None, **more):
         """Does a change of the map; without a dump of the new one that is known when it is done."""
-        folder = self.step(name, ["compare", "FOLDER/new.json", "--groups"], (said, does), files={"new.json": dump} if dump else {})
+        folder = self.step(name, ["compare", "FOLDER/new.json", "--groups"], (said, does), files={"new.json": dump} if dump else {}, **more)
         if not dump:
             (folder / "new.json").write_text(self.dumped())
         return folder
@@ -316,6 +399,42 @@ class OwnStory(Story):
         lines += [f"ceph osd pg-upmap-items {it['pgid']} " + " ".join(f"{of['from']} {of['to']}" for of in it["mappings"]) for it in items.get("new_pg_upmap_items", ())]
         return self.step("balance", ["upmap", "FOLDER/commands"], *(done or [("nothing", lambda: None)]), files={"commands": "".join(f"{it}\n" for it in lines)})
 
+    # ---- drains, each from the same state
+
+    def drain_names(self):
+        """Returns what is drained: each device, host and rack, and some lists of them."""
+        hosts = self.hosts()
+        devices = [f"osd.{it}" for it in sorted(self.left)]
+        lists = [self.hosts_of_two_racks(), self.choice.sample(devices, 3), [self.choice.choice(devices), self.choice.choice(hosts)[0]]]
+        return [[it] for it in (*devices, *(host for host, _, _ in hosts), *sorted({rack for _, rack, _ in hosts}))] + lists
+
+    def drained_in_turn(self):
+        """Drains one after the other. Before the next one the devices are in again, with the upmap
+        items that Ceph's monitors removed while they were out, and all groups lie as before."""
+        names, items = self.drain_names(), self.upmap_items()
+
+        def all_(before):
+            for it in names:
+                devices = sorted(set(self.devices_of(*it)))
+                self.out(devices)[1]()
+                yield {"names": it, "groups": self.cluster.settled()}
+                self.in_again(devices, items)
+                again = self.cluster.placed()
+                if any((again[key]["up"], again[key]["primary"]) != (of["up"], of["primary"]) for key, of in before.items()):
+                    raise real.Failed(f"once {' '.join(it)} are in again, groups don't lie as before")
+
+        return self.step("drains", ["check"], by="drains", drains=lambda before: list(all_(before)))
+
+    def upmap_items(self):
+        return {it["pgid"]: [device for pair in it["mappings"] for device in (pair["from"], pair["to"])] for it in self.cluster.asked("osd dump")["pg_upmap_items"]}
+
+    def in_again(self, devices, items):
+        self.cluster.told("osd in", ids=[str(it) for it in devices])
+        left = self.upmap_items()
+        for group, pairs in items.items():
+            if left.get(group) != pairs:
+                self.cluster.told("osd pg-upmap-items", pgid=group, id=pairs)
+
     # ---- removals
 
     def weight_first(self, device):
@@ -335,16 +454,21 @@ def text_of(record):
         return "{\n" + ",\n".join(f'"{pool}.{group:x}": {json.dumps(it)}' for (pool, group), it in sorted(groups.items())) + "\n}"
 
     before = {key: said(it) for key, it in record["before"].items()}
-    stages = [(it["done"], {key: said(of) for key, of in it["groups"].items() if said(of) != before[key]}) for it in record["stages"]]
-    rest = "".join(f"{json.dumps(key)}: {json.dumps(it)},\n" for key, it in record.items() if key not in ("before", "stages"))
-    return "{\n" + rest + f'"before": {lines(before)},\n"stages": [' + ",\n".join('{"done": %s, "groups": %s}' % (json.dumps(done), lines(groups)) for done, groups in stages) + "]\n}\n"
+
+    def done(name):
+        found = [[json.dumps({key: of for key, of in it.items() if key != "groups"})[1:-1], {key: said(of) for key, of in it["groups"].items() if said(of) != before[key]}] for it in record.get(name, ())]
+        return f'"{name}": [' + ",\n".join('{%s, "groups": %s}' % (words, lines(groups)) for words, groups in found) + "]"
+
+    rest = "".join(f"{json.dumps(key)}: {json.dumps(it)},\n" for key, it in record.items() if key not in ("before", "stages", "drains"))
+    drains = f'{done("drains")},\n' if "drains" in record else ""
+    return "{\n" + rest + f'"before": {lines(before)},\n{drains}{done("stages")}' + "\n}\n"
 
 
 def read(folder):
     """Returns the record of a step, with all groups of each stage."""
     record = json.loads((folder / "step.json").read_text())
     record["before"] = {key: {"acting": it["up"], **it} for key, it in record["before"].items()}
-    for it in record["stages"]:
+    for it in (*record["stages"], *(of for of in record.get("drains", ()) if "groups" in of)):
         it["groups"] = {**record["before"], **{key: {"acting": of["up"], **of} for key, of in it["groups"].items()}}
     record["pools"] = {int(it): of for it, of in record["pools"].items()}
     return record

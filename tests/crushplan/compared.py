@@ -159,8 +159,29 @@ class Comparison:
             same(f"locate {name}", [of["id"], of["up"], of["raw"], of["primary"]], [group, up, self.before[group][0], self.before[group][2]])
         self.counts["objects"] += len(said)
 
+    def uncomputed(self):
+        """Compares a cluster of which some pools can't be computed: exactly these are left out; of
+        the others where groups lie; and what a map moves by which all can be."""
+        ruleless = set(self.answers["ruleless"])
+        for command in ("usage", "check"):
+            said = self.plan(command, *["--groups"] * (command == "usage"))
+            same(f"{command}, left out", sorted(pool for it in said["uncomputed"] for pool in it["pools"]), sorted(ruleless))
+            if command == "usage":
+                here = {it["id"]: [it["raw"], it["up"], it["primary"]] for it in said["groups"]}
+        computed = {at: it for at, it in self.before.items() if int(at.split(".")[0]) not in ruleless}
+        same("usage, groups", here, computed)
+        self.counts["groups"] += len(here)
+        for name, after in self.answers["maps"].items():
+            self.compare(self.folder / name, after)
+        if not self.answers["maps"]:
+            # Ceph has placed nothing where it finds no rule
+            same("groups without a rule", {str(it) for at, it in self.before.items() if at not in computed}, {str([[], [], None])})
+        return self.counts
+
     def all(self):
         """Every comparison of the cluster."""
+        if "ruleless" in self.answers:
+            return self.uncomputed()
         self.usage()
         for it in self.answers["drains"]:
             self.drain(it)

@@ -67,6 +67,93 @@ def converted(runner, folder):
     equals("nothing is left out", said["uncomputed"], [])
 
 
+def host_added(runner, folder):
+    """A host that crushtool adds with two devices: those count as in and up. An upmap item stays
+    where its devices stay."""
+    old, new = crush_dump(4, 3, "straw2", "straw2"), crush_dump(4, 3, "straw2", "straw2")
+    more = bucket(-6, "host-more", 1, "straw2", [(12, ONE), (13, 2 * ONE)])
+    new["buckets"].append(more)
+    new["buckets"][0]["items"].append({"id": -6, "weight": more["weight"], "pos": 4})
+    new["buckets"][0]["weight"] += more["weight"]
+    new["devices"] += [{"id": it, "name": f"osd.{it}"} for it in (12, 13)]
+    write(folder, old, osd_dump(12))
+    (folder / "new.json").write_text(json.dumps(new))
+    before, after = (Placed(text_of(it), **PHOTOS) for it in (old, new))
+    said = runner.said("compare", folder, folder / "new.json", "--groups", status=0)
+    equals("a host more", moves(said), before.moves(after))
+    wants({12, 13} <= {device for _, _, now in moves(said) for device in now}, "nothing lies on the new devices")
+    # where allowed_bucket_algs is an old release's, crushtool makes the new host a straw bucket
+    old_kind = copy.deepcopy(new)
+    old_kind["buckets"][-1]["alg"] = "straw"
+    (folder / "straw.json").write_text(json.dumps(old_kind))
+    said = runner.said("compare", folder, folder / "straw.json", "--groups", status=2)
+    equals("a straw host more", (said["answer"], said["groups"]), ("unknown: no pool can be computed.", []))
+    wants("are straw buckets (host-more)" in said["uncomputed"][0]["text"], said["uncomputed"])
+    equals("its rows", runner.run("compare", folder, folder / "straw.json", "--groups", "--csv")[1], "pool,group,id,before,after,primary_before,primary_after,copies\n")
+    # the other way: the devices are there, and the map lacks them
+    write(folder, new, osd_dump(14))
+    (folder / "old.json").write_text(json.dumps(old))
+    equals("a host less", moves(runner.said("compare", folder, folder / "old.json", "--groups", status=0)), after.moves(before))
+    write(folder, old)
+    runner.refused("compare", folder, folder / "new.json", has="osd.json has devices that crush.json lacks (osd.12, osd.13)")
+    equals("devices without a place", moves(runner.said("compare", folder, folder / "new.json", "--groups", "--allow-unplaced", status=0)), before.moves(after))
+
+
+CLASS_IDS = {"hdd": -20, "ssd": -40}  # what the ids of buckets of a class alone are lower by
+
+
+def alone(crush, classes, class_):
+    """The buckets that have the devices of a class alone, each behind those that are in it."""
+    made = {}
+    for it in sorted(crush["buckets"], key=lambda of: of["type_id"]):
+        items = [(of["id"], of["weight"]) for of in it["items"] if classes.get(of["id"]) == class_]
+        items += [(made[of["id"]]["id"], made[of["id"]]["weight"]) for of in it["items"] if of["id"] < 0]
+        made[it["id"]] = bucket(CLASS_IDS[class_] + it["id"], f"{it['name']}~{class_}", it["type_id"], it["alg"], items)
+    return list(made.values())
+
+
+def of_class(class_):
+    """The steps that take a class alone."""
+    return ({"op": "take", "item": CLASS_IDS[class_] - 1, "item_name": f"default~{class_}"}, *STEPS[1:])
+
+
+def with_classes(crush, classes):
+    """The map with a class for each device, the trees of single classes, and rules 0 and 1 that
+    take hdd and ssd."""
+    found = copy.deepcopy(crush)
+    for it in found["devices"]:
+        it["class"] = classes[it["id"]]
+    found["buckets"] += [of for class_ in CLASS_IDS for of in alone(crush, classes, class_)]
+    found["rules"] = [rule(number, class_, of_class(class_)) for number, class_ in enumerate(CLASS_IDS)]
+    return found
+
+
+def placed_alone(crush, classes, class_, **fields):
+    """Where groups lie on the devices of a class, by a map that has no other."""
+    buckets = [{**it, "name": it["name"].split("~")[0]} for it in alone(crush, classes, class_)]
+    return Placed(text_of({**crush, "buckets": buckets}), **{**PHOTOS, **fields})
+
+
+def class_changed(runner, folder):
+    """Devices that get another class: groups of both classes' pools move, those of the whole tree
+    don't; a drain is on the class's own tree."""
+    crush, old = uneven(hosts=6), {it: "ssd" if it % 3 == 2 else "hdd" for it in range(18)}
+    new = {**old, 4: "ssd", 8: "hdd", 13: "ssd"}
+    before, after = (with_classes(crush, it) for it in (old, new))
+    for it in (before, after):
+        it["rules"].append(rule(2, "all"))
+    write(folder, before, osd_dump(18, [pool(1, "disks"), pool(2, "flash", crush_rule=1), pool(3, "all", crush_rule=2)]))
+    (folder / "new.json").write_text(json.dumps(after))
+    said = runner.said("compare", folder, folder / "new.json", "--groups", status=0)
+    for id_, class_ in ((1, "hdd"), (2, "ssd")):
+        wanted = placed_alone(crush, old, class_, pool=id_).moves(placed_alone(crush, new, class_, pool=id_))
+        equals(class_, [(it["group"], it["before"], it["after"]) for it in said["groups"] if it["pool"] == id_], wanted)
+        wants(wanted, f"nothing of {class_} moves")
+    equals("pools that move", sorted({it["pool"] for it in said["groups"]}), [1, 2])
+    drained = placed_alone(crush, old, "ssd", pool=2, reweights={2: 0})
+    equals("a drain", [(it["group"], it["before"], it["after"]) for it in runner.said("drain", folder, "osd.2", "--groups")["groups"] if it["pool"] == 2], placed_alone(crush, old, "ssd", pool=2).moves(drained))
+
+
 def with_set(crush, rows):
     """The same map with the weights of a set: by the names of buckets."""
     found = copy.deepcopy(crush)
@@ -308,5 +395,5 @@ def outputs(runner, folder):
 
 
 def cases():
-    found = (straw2, converted, sets, lists, primaries, mixed_list, word, sites, many_buckets, left_out, words, outputs)
+    found = (straw2, converted, host_added, class_changed, sets, lists, primaries, mixed_list, word, sites, many_buckets, left_out, words, outputs)
     return [(it.__name__, it) for it in found]

@@ -19,6 +19,8 @@ from .summary import PoolChange, bytes_anew, gains, ratio_said, total, whole, wr
 from .tree import Tree
 
 ROUNDED = 33  # 65536ths by which rounding to three decimals changes a weight
+GROUP_HEADS = ["pool", "group", "id", "before", "after", "primary_before", "primary_after", "copies"]
+HOST_HEADS = ["host", "lost", "gained"]
 
 
 def read_new(plan, path):
@@ -99,7 +101,7 @@ def compare(plan, asked):
     new = NewMap(plan, read_new(plan, asked.new))
     changes = new.changes() + new.changes_by_word()
     if not changes:
-        return nothing(new)
+        return nothing(new, asked.groups)
     pools = [it.pool for it in changes]
     moved, copies = sum(len(it.moves) for it in changes), sum(it.copies for it in changes)
     bytes_ = total(it.bytes for it in changes)
@@ -127,20 +129,21 @@ def compare(plan, asked):
         "new": new.map.file, "moved": moved, "copies": copies, "bytes": whole(bytes_), "least": rounded(least.numerator, least.denominator, 2), "missing_copies": missing, "missing_copies_before": before, **full.said(),
         "pools": [it.said() for it in changes], "hosts": [{"name": name, "lost": lost, "gained": gained} for name, lost, gained in hosts],
     }  # fmt: skip
-    heads = ["pool", "group", "id", "before", "after", "primary_before", "primary_after", "copies"]
-    own = [heads] + [[pool.id, group, pool.group_name(group), listed(old), listed(now), primary(plan, pool, group, old), primary(plan, pool, group, now), count] for pool, group, old, now, count in groups]
+    own = [GROUP_HEADS] + [[pool.id, group, pool.group_name(group), listed(old), listed(now), primary(plan, pool, group, old), primary(plan, pool, group, now), count] for pool, group, old, now, count in groups]
     if asked.groups:
         fields["groups"] = [{"pool": pool.id, "group": group, "id": pool.group_name(group), "before": old, "after": now, "primary_before": primary(plan, pool, group, old), "primary_after": primary(plan, pool, group, now), "copies": count} for pool, group, old, now, count in groups]
     else:
-        own = [["host", "lost", "gained"], *hosts]
+        own = [HOST_HEADS, *hosts]
     return Answer(status, sentence, fields, blocks, own)
 
 
-def nothing(new):
+def nothing(new, with_groups):
     """Returns the answer where no pool can be computed."""
     fields = dict.fromkeys(("moved", "copies", "bytes", "least", "missing_copies", "missing_copies_before", "fullest"))
     fields = {"new": new.map.file, **fields, "past_nearfull": [], "past_backfillfull": [], "pools": [], "hosts": []}
-    return Answer(2, "unknown: no pool can be computed.", fields, [], [["host", "lost", "gained"]])
+    if with_groups:
+        fields["groups"] = []
+    return Answer(2, "unknown: no pool can be computed.", fields, [], [GROUP_HEADS if with_groups else HOST_HEADS])
 
 
 def primary(plan, pool, group, up):
