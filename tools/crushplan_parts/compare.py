@@ -1,10 +1,12 @@
 """`crushplan compare`: what moves where a map is changed."""
+import collections
 import fractions
 import pathlib
 
 from .cluster import State, text_of
 from .computable import pool_fault
 from .crush_map import mark_holes
+from .drawing import of_counts
 from .faults import counted, some
 from .output import Answer, Table, devices_text, sized
 from .placing import Note
@@ -129,7 +131,13 @@ def compare(plan, asked):
         fields["groups"] = [{"pool": pool.id, "group": group, "id": pool.group_name(group), "before": old, "after": now, "primary_before": primary(plan, pool, group, old), "primary_after": primary(plan, pool, group, now), "copies": count} for pool, group, old, now, count in groups]
     else:
         own = [["host", "lost", "gained"], *hosts]
-    return Answer(status, sentence, fields, blocks, own)
+    return Answer(status, sentence, fields, blocks, own, lambda: drawn(plan, new.map, changes))
+
+
+def drawn(plan, map_, changes):
+    """Returns the drawing of copies before and after."""
+    before, after = (sum((collections.Counter(of.entries) for of in own), collections.Counter()) for own in ([it.before for it in changes], [it.after for it in changes]))
+    return of_counts(plan, "Copies, by device", ("before", "after"), before, after, Tree(map_))
 
 
 def nothing(new):
@@ -149,7 +157,7 @@ class Compared:
     """What a changed map moves in one pool."""
 
     def __init__(self, plan, map_, pool, before, after, moves):
-        self.pool, self.moves = pool, moves
+        self.pool, self.moves, self.before, self.after = pool, moves, before, after
         self.copies = sum(written_anew(pool, *it) for it in self.moves.values())
         self.change = PoolChange(pool, before, set(), [])
         lists = [(group, *both) for group, both in self.moves.items()]

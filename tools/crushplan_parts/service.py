@@ -8,6 +8,7 @@ import subprocess
 import threading
 
 from .faults import Fault
+from .waiting import waiting
 
 JOBS = 4
 SECONDS = 600  # as long as one run may take
@@ -99,6 +100,10 @@ class Script:
             return []
         return re.findall(r"[^\s(),:;]+", ran.stdout.decode(errors="replace"))
 
+    def words(self):
+        """Returns which program answers, in words."""
+        return self.version()
+
     def is_unproved(self):
         """Returns whether the program says of itself that it is unproved."""
         return UNPROVED in self.version_words()
@@ -153,4 +158,11 @@ def side_by_side(client, works):
 
 def at_once(client, runs):
     """Answers several runs, side by side where that can be."""
-    return side_by_side(client, [lambda it=it: client.run(it) for it in runs])
+
+    def answered(requests):
+        waiting.ask(len(requests))
+        replies = client.run(requests)
+        waiting.take(len(requests))
+        return replies
+
+    return side_by_side(client, [lambda it=it: answered(it) for it in runs])
