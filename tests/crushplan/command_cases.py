@@ -43,11 +43,13 @@ def ranges(runner, folder):
         (("osd.1[01]",), [10, 11], "This is of 2 devices: osd.10, osd.11."),
         (("r1", "--class", "ssd"), [0, 2, 4], "This is of 3 devices of the class ssd, below r1: osd.0, osd.2, osd.4."),
         (("--class", "hdd"), [1, 3, 5, 7, 9, 11], "This is of 6 devices of the class hdd: osd.1, "),
-        (("r2h2",), [9, 10, 11], None),
+        (("r2h2",), [9, 10, 11], None), (("--by", "host", "osd.1", "--groups", "osd.2"), [1, 2], None),
     ):
         equals(f"drain {words}", runner.said("drain", folder, *words)["devices"], devices)
         text = runner.run("fail", folder, *words)[1]
         wants(said in text if said else "This is of" not in text, f"fail {words} says {text[:300]!r}")
+    said = runner.said("locate", folder, "--program", runner.program, "photos", "--allow-unplaced", "a", "b", "--json")
+    equals("objects behind options", [it["name"] for it in said["objects"]], ["a", "b"])
     each = runner.said("fail", folder, "--each", "host", "--class", "ssd")["each"]
     equals("each host's", {it["name"]: it["devices"] for it in each}, {"r1h1": 2, "r1h2": 1, "r2h1": 2, "r2h2": 1})
     said = runner.said("drain", folder, "osd.10-13")

@@ -127,6 +127,27 @@ def parser():
     return whole
 
 
+def parsed(whole, words):
+    """Returns what words ask. Names may also stand behind options, where argparse, which takes no
+    names for all of them by then, leaves them."""
+    asked, rest = whole.parse_known_args(words)
+    if rest and (any(it.startswith("-") for it in rest) or not take_rest(asked, rest)):
+        whole.error(f"unrecognized arguments: {' '.join(rest)}")
+    return asked
+
+
+def take_rest(asked, rest):
+    """Takes words as further names of a command, and returns whether it has any."""
+    if asked.command in ("drain", "fail"):
+        asked.names = [*asked.names, *rest]
+    elif asked.command == "locate":
+        first = [] if asked.pool_name is None else [asked.pool_name]
+        asked.pool_name, *asked.objects = [*first, *asked.objects, *rest]
+    else:
+        return False
+    return True
+
+
 def help_of(whole, topic):
     """Writes the help of the program, or of a command."""
     if topic is None:

@@ -150,7 +150,7 @@ def main(words, beside):
     asked = argparse.Namespace(command=None)
     try:
         parser = arguments.parser()
-        asked = parser.parse_args(words)
+        asked = arguments.parsed(parser, words)
         if asked.version:
             said_version(beside)
             return 0

@@ -38,15 +38,16 @@ class Chosen:
 
     def __init__(self, plan, words, class_=None):
         self.plan, self.tree, self.words, self.class_ = plan, plan.tree, words, class_
-        own, found, names = of_class(plan, class_), {}, {}
+        own, found, named = of_class(plan, class_), {}, {}
         for word in words or [EVERYTHING]:
             items = self.items(word)
             devices = own(device for item in items for device in plan.map.below(item))
             if not devices:
                 raise Fault(f"{word} has no devices" + (f" of the class {class_}" if class_ else ""))
             found.update(dict.fromkeys(devices))
-            names.update(dict.fromkeys(plan.map.name_of(it) for it in items))
-        self.devices, self.names = sorted(found), list(names) if words else []
+            named.update(dict.fromkeys(items if words else ()))
+        self.devices, self.named = sorted(found), list(named)
+        self.names = [plan.map.name_of(it) for it in named]
 
     def items(self, word):
         """Returns the items that a word names: itself, where there is an item of this name, else
@@ -90,7 +91,7 @@ class Chosen:
         """Says which devices are meant, where words don't name each of them."""
         if self.words and self.class_ is None and all(it in self.tree.ids or it.isdigit() for it in self.words):
             return ""
-        buckets = [it for it in self.names if self.tree.ids[it] < 0]
+        buckets = [name for it, name in zip(self.named, self.names) if it < 0]
         of = f", below {some(buckets)}" if buckets else ""
         class_ = f" of the class {self.class_}" if self.class_ else ""
         devices = some([self.plan.map.name_of(it) for it in self.devices])

@@ -67,6 +67,8 @@ def write_page(path, answer, asked, plan):
 
 def write_whole(path, data):
     """Writes a file: another one beside it, which then takes its name."""
+    if path == "-":
+        raise Fault("--html -: a page is written into a file")
     target = pathlib.Path(os.path.realpath(path))
     if target.exists() and not target.is_file():
         raise Fault(f"--html {path}: it is there, and isn't a file")
