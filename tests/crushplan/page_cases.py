@@ -121,6 +121,12 @@ def changed(runner, folder):
         by_host.update({(it["host"], 0): it["copies_before"], (it["host"], 1): it["copies_after"]})
     equals("by host", page.numbers(), {f"host{it}": (by_host[f"host{it}", 0], by_host[f"host{it}", 1]) for it in range(4)})
     equals("its longest bar", max(max(it[2].values()) for it in page.bars.values()), 100)
+    unproved = folder / "unproved"
+    unproved.write_text(f'#!/bin/sh\n[ "$1" = --version ] && {{ echo "crushcalc 0.1.0 (unproved)"; exit; }}\nexec {runner.program} "$@"\n')
+    unproved.chmod(0o755)
+    page, _ = page_of(runner, folder, "drain", folder, "osd.1", "--program", unproved)
+    wants("crushcalc 0.1.0 (unproved)" in page.text, page.text[:300])
+    wants("not proved: the program is unproved" in {it[0] for it in page.tables[""]}, page.tables[""])
     (folder / "df.json").unlink()
     page, said = page_of(runner, folder, "drain", folder, "osd.1")
     equals("copies", page.numbers(), {it["name"]: (it["copies_before"], it["copies_after"]) for it in said["usage"]})

@@ -174,6 +174,12 @@ def mixed_list(runner, folder):
     said = runner.said("upmap", folder, commands(folder, "ceph osd pg-upmap-items 2.1 0 3 ;\nceph osd rm-pg-upmap-items 1.1\n"), status=2)
     equals("the answer", said["answer"], "unknown: 0 groups move, and 0 copies are written anew; of pool odd nothing is computed.")
     equals("groups", ([it["id"] for it in said["groups"]], [it["groups"] for it in said["uncomputed"] if it["kind"] == "upmap"]), (["1.1"], [["2.1"]]))
+    up = Placed(text_of(uneven()), **PHOTOS).up[9]
+    lines = f"ceph osd pg-upmap-items 2.1 0 3 &\nceph osd pg-upmap-primary 1.9 {up[1]} ;\nceph osd rm-pg-upmap-items 1.1 &&\nwait\n"
+    runner.refused("upmap", folder, commands(folder, lines), has="line 4: it isn't 'ceph osd pg-upmap-items")
+    said = runner.said("upmap", folder, commands(folder, lines.removesuffix("wait\n")), status=2)
+    equals("primaries among them", {it["id"]: (it["primary_after"], it["copies"]) for it in said["groups"]}["1.9"], (up[1], 0))
+    wants("; 1 primary changes" in said["answer"] and "of pool odd nothing is computed" in said["answer"], said["answer"])
 
 
 def brief(placed, changed=()):

@@ -121,7 +121,8 @@ def parser():
         ADD[name](one)
         if name != "fetch":
             common(one)
-    said = commands.add_parser("help", help="shows this, or the help of a command", description="Shows the help of a command.", allow_abbrev=False)
+    own = {"help": "shows this, or the help of a command", "description": "Shows the help of a command."}
+    said = commands.add_parser("help", **own, allow_abbrev=False)
     said.add_argument("topic", nargs="?", metavar="COMMAND", help="one of: " + ", ".join(COMMANDS))
     whole.commands = commands.choices
     return whole

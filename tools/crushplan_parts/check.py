@@ -37,7 +37,8 @@ def check(plan, asked):
         "holes": [{"bucket": bucket.name, "pos": place} for bucket, place in holes_of(plan.map)], "lying": lying.said(),
     }  # fmt: skip
     rows = [["pool", "name", "computed", "why"]] + [[it["pool"], it["name"], int(it["computed"]), it["why"] or ""] for it in pools]
-    return Answer(2 if lying.differs() else status, f"{sentence}{lying.sentence()}.", fields, blocks, rows, lying.drawing)
+    status = 2 if lying.differs() else status
+    return Answer(status, f"{sentence}{lying.sentence()}.", fields, blocks, rows, lying.drawing)
 
 
 class Lying:
@@ -54,7 +55,8 @@ class Lying:
         if by_group:
             placements = {id_: run.placements(it) for id_, it in asked.items()}
             self.compared = Compared(plan, placements)
-            self.entries.update(device for own in placements.values() for it in own.values() for device in it.up if device is not None)
+            for it in (it for own in placements.values() for it in own.values()):
+                self.entries.update(device for device in it.up if device is not None)
         else:
             usages = {id_: run.counted(it) for id_, it in asked.items()}
             self.looked = is_steady(plan, usages) and any(it.groups is not None for it in plan.cluster.rooms.values())
@@ -65,13 +67,14 @@ class Lying:
     def drawing(self):
         """Returns the drawing of how many groups each device has as computed, beside how many the
         cluster says that it has, where it does."""
-        plan, title = self.plan, "Groups of the computed pools, by device"
-        if self.plan.cluster.groups is not None:
+        plan, before = self.plan, None
+        if plan.cluster.groups is not None:
             said = [entries_said(plan, it) for it in plan.pools.values()]
             before = None if None in said else sum(map(collections.Counter, said), collections.Counter())
-        else:
-            before = {device: it.groups for device, it in plan.cluster.rooms.items() if it.groups is not None} if self.looked else None
-        return of_counts(plan, title, ("in the cluster" if before else None, "computed"), before or None, self.entries)
+        elif self.looked:
+            before = {device: it.groups for device, it in plan.cluster.rooms.items() if it.groups is not None}
+        words = ("in the cluster" if before else None, "computed")
+        return of_counts(plan, "Groups of the computed pools, by device", words, before or None, self.entries)
 
     def differs(self):
         return bool(self.devices or self.compared and self.compared.others)

@@ -136,7 +136,10 @@ def compare(plan, asked):
 
 def drawn(plan, map_, changes):
     """Returns the drawing of copies before and after."""
-    before, after = (sum((collections.Counter(of.entries) for of in own), collections.Counter()) for own in ([it.before for it in changes], [it.after for it in changes]))
+    before, after = collections.Counter(), collections.Counter()
+    for it in changes:
+        before.update(it.before.entries)
+        after.update(it.after.entries)
     return of_counts(plan, "Copies, by device", ("before", "after"), before, after, Tree(map_))
 
 

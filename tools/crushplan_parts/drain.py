@@ -39,7 +39,8 @@ def drain(plan, asked):
     if asked.groups:
         blocks.append(groups_table(summary.moves))
     rows = groups_rows(plan, summary.moves) if asked.groups else usage_rows(summary)
-    return Answer(status, verdict(summary, stay, status), fields, blocks, rows, lambda: of_devices(plan, summary.devices, asked.by))
+    drawing = lambda: of_devices(plan, summary.devices, asked.by)
+    return Answer(status, verdict(summary, stay, status), fields, blocks, rows, drawing)
 
 
 def in_bytes(value):

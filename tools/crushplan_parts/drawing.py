@@ -71,9 +71,8 @@ def of_devices(plan, devices, by=None, words=("before", "after")):
 def of_counts(plan, title, words, before, after, tree=None):
     """Returns the drawing of numbers by device, of which those before may be None."""
     devices = sorted(it for it in {*(before or ()), *after} if (before or {}).get(it) or after.get(it))
-    bars = [
-        Bar(*place_of(plan, it, tree), None if before is None else before.get(it, 0), after.get(it, 0)) for it in devices
-    ]
+    old = lambda device: None if before is None else before.get(device, 0)
+    bars = [Bar(*place_of(plan, it, tree), old(it), after.get(it, 0)) for it in devices]
     return Drawing(title, words, bars)
 
 

@@ -19,7 +19,8 @@ class Answer:
     returns them; `drawing` is one that returns what is drawn of it (drawing.py), or None."""
 
     def __init__(self, status, sentence, fields, blocks, rows, drawing=None):
-        self.status, self.sentence, self.fields, self.blocks, self.rows, self.drawing = status, sentence, fields, blocks, rows, drawing
+        self.status, self.sentence, self.fields = status, sentence, fields
+        self.blocks, self.rows, self.drawing = blocks, rows, drawing
 
 
 class Table:
@@ -33,7 +34,8 @@ class Table:
     def without(self, place):
         """Returns the table without a column."""
         cut_out = lambda row: [*row[:place], *row[place + 1 :]]
-        rows, moved = [cut_out(it) for it in self.rows], lambda places: [it - (it > place) for it in places if it != place]
+        moved = lambda places: [it - (it > place) for it in places if it != place]
+        rows = [cut_out(it) for it in self.rows]
         return Table(cut_out(self.heads), rows, self.title, moved(self.spare), moved(self.uncut))
 
     def text(self, width):

@@ -32,7 +32,8 @@ h1.good { border-color: var(--good); } h1.bad { border-color: var(--bad); } h1.u
 h2 { font-size: 1.05rem; margin: 0 0 .5rem; }
 p, ul { margin: 0 0 .75rem; } ul { padding-left: 1.25rem; }
 .of, .key { color: var(--soft); font-size: .875rem; }
-section { background: var(--card); border: 1px solid var(--line); border-radius: 10px; padding: 1rem; margin: 0 0 1rem; }
+section { background: var(--card); border: 1px solid var(--line); border-radius: 10px; padding: 1rem;
+  margin: 0 0 1rem; }
 section > :last-child { margin-bottom: 0; }
 /* a shadow at an edge behind which there is more of the table */
 .scroll { overflow-x: auto; background:
@@ -41,7 +42,8 @@ section > :last-child { margin-bottom: 0; }
   linear-gradient(to right, var(--line), transparent) left / 1rem 100% scroll no-repeat,
   linear-gradient(to left, var(--line), transparent) right / 1rem 100% scroll no-repeat; }
 table { border-collapse: collapse; font-size: .925rem; font-variant-numeric: tabular-nums; }
-th, td { padding: .25rem .75rem .25rem 0; overflow-wrap: normal; text-align: left; vertical-align: top; border-bottom: 1px solid var(--line); }
+th, td { padding: .25rem .75rem .25rem 0; overflow-wrap: normal; text-align: left; vertical-align: top;
+  border-bottom: 1px solid var(--line); }
 tr:last-child > * { border-bottom: 0; } thead th { border-bottom: 1px solid var(--soft); white-space: nowrap; }
 tbody th { font-weight: 500; } .n { text-align: right; white-space: nowrap; }
 .w { min-width: 14rem; }
@@ -54,7 +56,8 @@ pre { margin: 0; white-space: pre-wrap; font: .875rem/1.5 ui-monospace, "DejaVu 
 .near-full, .backfill-full { stroke-width: 2; stroke-dasharray: 4 3; }
 .near-full { stroke: var(--near); } .backfill-full { stroke: var(--full); stroke-dasharray: none; }
 .key span { white-space: nowrap; margin-right: 1rem; } .key svg { width: .9rem; height: .9rem; vertical-align: -.1rem; }
-@media (max-width: 600px) { .bars { grid-template-columns: auto minmax(4rem, 1fr) auto; gap: 0 .5rem; } .bars .above { display: none; } }
+@media (max-width: 600px) {
+  .bars { grid-template-columns: auto minmax(4rem, 1fr) auto; gap: 0 .5rem; } .bars .above { display: none; } }
 @media print { body { background: none; padding: 0; } section { break-inside: avoid; border: 0; padding: 0; } }
 """
 
@@ -103,7 +106,7 @@ def page_text(answer, asked, plan):
     state = STATES.get(answer.status, "unknown")
     command = command_text(asked)
     about = f"{command} · map {plan.map.file} · crushplan {VERSION}, {plan.client.words()}"
-    parts = [f'<h1 class="{state}">{escaped(answer.sentence or "Here is where they lie.")}</h1>', f'<p class="of">{escaped(about)}</p>']
+    parts = [f'<h1 class="{state}">{escaped(answer.sentence)}</h1>', f'<p class="of">{escaped(about)}</p>']
     blocks = [it for it in answer.blocks if it]
     drawing = answer.drawing() if answer.drawing else None
     first = place_of_drawing(blocks)
@@ -113,11 +116,12 @@ def page_text(answer, asked, plan):
     parts += [block_text(it) for it in blocks[first:]]
     notes = [*plan.cluster.warnings, *(it.text for it in plan.notes if not it.open)]
     parts += [list_text("Notes", notes), list_text("Not computed", [it.short for it in plan.notes if it.open])]
+    body = "\n".join(it for it in parts if it)
     return (
         f'<!DOCTYPE html>\n<html lang="en">\n<head>\n<meta charset="utf-8">\n<title>{escaped(command)}</title>\n'
         '<meta name="viewport" content="width=device-width, initial-scale=1">\n'
         f'<meta http-equiv="Content-Security-Policy" content="{ONLY_ITSELF}">\n'
-        f"<style>{STYLE}</style>\n</head>\n<body>\n<main>\n" + "\n".join(it for it in parts if it) + "\n</main>\n</body>\n</html>\n"
+        f"<style>{STYLE}</style>\n</head>\n<body>\n<main>\n{body}\n</main>\n</body>\n</html>\n"
     )
 
 
@@ -164,27 +168,36 @@ def table_text(table):
 
 def drawing_text(drawing):
     """Returns the bars, each a drawing of its own beside its name and its numbers."""
-    old, new = drawing.words
-    key = [("old", old)] * (old is not None) + [("new", new)]
-    marks = "".join(f'<span><svg aria-hidden="true"><rect class="{of}" width="100%" height="100%"/></svg> {escaped(name)}</span> ' for of, name in key)
-    marks += "".join(f'<span><svg aria-hidden="true"><line class="{name}" x1="50%" x2="50%" y1="0" y2="100%"/></svg> {name}, {drawing.shown(at)}</span> ' for name, at in drawing.lines)
+    whole = '<rect class="{}" width="100%" height="100%"/>'
+    across = '<line class="{}" x1="50%" x2="50%" y1="0" y2="100%"/>'
+    key = [(whole.format(of), name) for of, name in zip(("old", "new"), drawing.words) if name is not None]
+    key += [(across.format(name), f"{name}, {drawing.shown(at)}") for name, at in drawing.lines]
+    marks = " ".join(f'<span><svg aria-hidden="true">{mark}</svg> {escaped(words)}</span>' for mark, words in key)
     rows = "\n".join(bar_text(drawing, it) for it in drawing.bars)
-    return f'<section>\n<h2>{escaped(drawing.title)}</h2>\n<p class="key">{marks.strip()}</p>\n<div class="bars">\n{rows}\n</div>\n</section>'
+    title = f'<h2>{escaped(drawing.title)}</h2>\n<p class="key">{marks}</p>'
+    return f'<section>\n{title}\n<div class="bars">\n{rows}\n</div>\n</section>'
 
 
 def bar_text(drawing, bar):
-    end, both = drawing.end(), drawing.words[0] is not None
+    """Returns a bar: the values before and after one above the other, or one alone; its numbers
+    also as attributes, for what reads the page."""
+    (old, new), both = drawing.words, drawing.words[0] is not None
+    before, after = drawing.shown(bar.before), drawing.shown(bar.after)
     between = " → " if drawing.words == ("before", "after") else " / "
-    said = (drawing.shown(bar.before) + between) * both + f"<b>{drawing.shown(bar.after)}</b>"
-    words = f"{bar.name}: " + (f"{drawing.words[0]} {drawing.shown(bar.before)}, " if both else "") + f"{drawing.words[1]} {drawing.shown(bar.after)}"
-    data = " ".join(f'data-{name}="{escaped(value)}"' for name, value in (("name", bar.name), ("before", bar.before), ("after", bar.after)) if value is not None)
-    shapes = ['<rect class="track" y="12%" width="100%" height="76%"/>']
-    for kind, value, top, height in (("old", bar.before, 12, 34), ("new", bar.after, 46 if both else 12, 42 if both else 76)):
+    said = (before + between) * both + f"<b>{after}</b>"
+    words = f"{bar.name}: " + f"{old} {before}, " * both + f"{new} {after}"
+    data = {"name": bar.name, "before": bar.before, "after": bar.after}
+    data = " ".join(f'data-{key}="{escaped(value)}"' for key, value in data.items() if value is not None)
+    end, shapes = drawing.end(), ['<rect class="track" y="12%" width="100%" height="76%"/>']
+    for kind, value, top, height in (("old", bar.before, 12, 34), ("new", bar.after, *((46, 42) if both else (12, 76)))):
         if value is not None:
             shapes.append(f'<rect class="{kind}" y="{top}%" width="{share_of(value, end)}%" height="{height}%"/>')
-    shapes += [f'<line class="{name}" x1="{share_of(at, end)}%" x2="{share_of(at, end)}%" y1="0" y2="100%"/>' for name, at in drawing.lines]
+    for name, at in drawing.lines:
+        place = f"{share_of(at, end)}%"
+        shapes.append(f'<line class="{name}" x1="{place}" x2="{place}" y1="0" y2="100%"/>')
     picture = f'<svg role="img" aria-label="{escaped(words)}" {data}>{"".join(shapes)}</svg>'
-    return f'<span>{escaped(bar.name)}</span><span class="above">{escaped(bar.above)}</span>{picture}<span class="n">{said}</span>'
+    names = f'<span>{escaped(bar.name)}</span><span class="above">{escaped(bar.above)}</span>'
+    return f'{names}{picture}<span class="n">{said}</span>'
 
 
 def share_of(value, end):

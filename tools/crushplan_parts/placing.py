@@ -148,7 +148,8 @@ class Plan:
                 self.notes.append(Note("pg_num", f"pool {pool.name} has {pool.pg_num} groups, which is no power of two: some of them have twice the objects of others. What moves, and how full devices get, is said by that, but bytes before and after as if all had as many", pools=[pool.id], devices=self.devices_of(pool), open_=False))
         for kind in ("pg_temp", "primary_temp"):
             own = {pool: groups for pool, groups in cluster.temporary.get(kind, {}).items() if pool in pools}
-            self.note_groups(kind, own, f"a temporary {'list' if kind == 'pg_temp' else 'primary'} ({kind})", "what is said is where they lie once that is over")
+            has = f"a temporary {'list' if kind == 'pg_temp' else 'primary'} ({kind})"
+            self.note_groups(kind, own, has, "what is said is where they lie once that is over")
 
     def note_rounded_sets(self):
         """Notes which groups may lie otherwise by weight sets that are rounded."""

@@ -21,7 +21,8 @@ class Waiting:
 
     def __init__(self):
         self.what, self.asked, self.answered = "", 0, 0
-        self.lock, self.over, self.thread, self.bar, self.written = threading.Lock(), threading.Event(), None, False, False
+        self.lock, self.over, self.thread = threading.Lock(), threading.Event(), None
+        self.bar, self.written = False, False
 
     def __enter__(self):
         self.start = time.monotonic()
