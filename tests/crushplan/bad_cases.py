@@ -140,7 +140,7 @@ def programs(runner, folder):
 def arguments(runner, folder):
     """Arguments that it doesn't know."""
     usual(folder)
-    for words, wanted in (((), "usage: crushplan"), (("fly", folder), "invalid choice: 'fly'"), (("drain", folder), "NAME"), (("drain", folder, "host1", "--csv", "--json"), "not allowed with"), (("usage", folder, "--size", "0"), "isn't a whole number from 1 to 65536"), (("usage", folder, "--pg-num", "x"), "isn't a whole number")):
+    for words, wanted in (((), "usage: crushplan"), (("fly", folder), "invalid choice: 'fly'"), (("drain", folder), "crushplan drain wants the names of hosts, racks or devices, or --class CLASS"), (("usage", folder, "--size", "0"), "isn't a whole number from 1 to 65536"), (("usage", folder, "--pg-num", "x"), "isn't a whole number")):
         runner.refused(*words, has=wanted)
 
 

@@ -5,10 +5,11 @@ import os
 import pty
 import re
 import select
+import shlex
 import subprocess
 import sys
 
-from made import crush_dump, osd_dump, pool, text_of, write
+from made import ONE, STEPS, bucket, crush_dump, osd_dump, pool, rule, text_of, write
 from running import PLAN, SECONDS, equals, wants
 
 COMMANDS = ("fetch", "check", "usage", "compare", "drain", "fail", "upmap", "locate")
@@ -98,19 +99,24 @@ def on_terminal(words, environment, columns=80):
     return found.decode()
 
 
+def without_waiting(said):
+    """What a program wrote on a terminal, without the lines that it took away again."""
+    return re.sub("^(?:\r[^\r]*\033\\[K)+", "", said)
+
+
 def terminals(runner, folder):
     """On a terminal there are colours, but not with NO_COLOR; tables are as wide as the terminal;
     and a failure of each host in turn shows how far it is."""
     usual(folder)
     environment = {name: value for name, value in runner.environment.items() if name not in ("NO_COLOR", "COLUMNS", "LINES")}
     environment["TERM"] = "xterm"
-    said = on_terminal(("drain", folder, "host0"), environment)
+    said = without_waiting(on_terminal(("drain", folder, "host0"), environment))
     wants(said.startswith("\033[32myes:"), f"no colour: {said[:60]!r}")
-    said = on_terminal(("drain", folder, "host0"), {**environment, "NO_COLOR": "1"})
+    said = without_waiting(on_terminal(("drain", folder, "host0"), {**environment, "NO_COLOR": "1"}))
     wants(said.startswith("yes:") and "\033" not in said, f"a colour: {said[:60]!r}")
-    narrow = on_terminal(("usage", folder), {**environment, "NO_COLOR": "1"}, 50)
+    narrow = without_waiting(on_terminal(("usage", folder), {**environment, "NO_COLOR": "1"}, 50))
     wants(max(len(it) for it in narrow.splitlines() if it.startswith("  ")) <= 50, "a table is wider than the terminal")
-    narrow = on_terminal(("drain", folder, "host0"), {**environment, "NO_COLOR": "1"}, 72).split("Copies before")[0]
+    narrow = without_waiting(on_terminal(("drain", folder, "host0"), {**environment, "NO_COLOR": "1"}, 72)).split("Copies before")[0]
     wants(max(len(it) for it in narrow.splitlines() if it.startswith("  ")) <= 72, f"the summary is wider than the terminal: {narrow}")
     whole = runner.run("drain", folder, "host0")[1].split("Copies before")[0]
     equals("the summary's words on a narrow terminal", sorted(narrow.split()), sorted(whole.split()))
@@ -118,6 +124,29 @@ def terminals(runner, folder):
     wants("1 of 4 hosts" in said and "s left" in said, f"no progress: {said[:200]!r}")
     _, _, err = runner.run("fail", folder, "--each", "host")
     equals("progress on a pipe", err, "")
+
+
+def last_column(runner, folder):
+    """On 80 columns what a failure of each host does isn't cut in its last columns, nor is any
+    number; where nothing of a host is computed it has question marks, and no zeros."""
+    crush, count = crush_dump(), 12
+    for number, it in enumerate(crush["buckets"][1:]):
+        it["name"] = f"storage-of-the-first-hall-{number}"
+    crush["devices"] += [{"id": it, "name": f"osd.{it}"} for it in range(count, count + 3)]
+    hosts = [bucket(-20 - it, f"storage-of-the-other-hall-{it}", 1, "straw", [(count + it, ONE)]) for it in range(3)]
+    crush["buckets"] += [*hosts, bucket(-30, "other", 10, "straw", [(it["id"], ONE) for it in hosts])]
+    crush["rules"].append(rule(1, "other", ({**STEPS[0], "item": -30, "item_name": "other"}, *STEPS[1:])))
+    write(folder, crush, osd_dump(count + 3, [pool(1, "photos"), pool(2, "index", crush_rule=1)]))
+    environment = {name: value for name, value in runner.environment.items() if name not in ("COLUMNS", "LINES")}
+    said = on_terminal(("fail", folder, "--each", "host"), {**environment, "TERM": "dumb", "NO_COLOR": "1"})
+    table = said.split("\r\n\r\n")[1].splitlines()
+    wants(max(map(len, table)) <= 80, f"it is wider than the terminal: {said}")
+    equals("heads", table[0].split()[-2:], ["fullest", "computed"])
+    equals("the last column", sorted(it.split()[-1] for it in table[1:]), ["all"] * 4 + ["nothing"] * 3)
+    for it in table[1:]:
+        name, *rest = it.split()
+        wants("…" not in "".join(rest), it)
+        wants(rest[-1] == "all" or set(rest[:-1]) == {"?"}, it)
 
 
 def helps(runner, folder):
@@ -151,7 +180,8 @@ def examples(runner, folder):
     for it in found:
         if it.startswith("fetch"):
             continue
-        code, out, err = runner.run(*it.replace("july", str(folder / "july")).replace("--each rack", "--each host").split())
+        own = {"july": folder / "july", "july.html": folder / "july.html", "rack": "host", "r1h*": "host[01]"}
+        code, out, err = runner.run(*(own.get(word, word) for word in shlex.split(it)))
         wants(code in (0, 1) and out and not err, f"{it}: {code} {err}")
     for name in COMMANDS[1:]:
         words = re.search(r"^example: crushplan (.*)$", runner.run(name, "--help")[1], re.M)[1].split()
@@ -169,7 +199,7 @@ def completion(runner, folder):
         wanted = {it for it in re.findall(r"--[a-z-]+", runner.run(name, "--help")[1].split("example: ")[0].split("options:")[1]) if it not in ("--crushtool",)}
         equals(f"options of {name}", {*said} | {"--help"}, wanted | {"--help"})
     said = subprocess.run(["bash", "-c", f"source {script}; COMP_WORDS=(crushplan ''); COMP_CWORD=1; _crushplan; printf '%s\\n' \"${{COMPREPLY[@]}}\""], stdout=subprocess.PIPE, check=True).stdout.decode().split()
-    equals("commands", {it for it in said if not it.startswith("-")}, set(COMMANDS))
+    equals("commands", {it for it in said if not it.startswith("-")}, {*COMMANDS, "help"})
 
 
 FAKE = """#!/bin/sh
@@ -208,4 +238,4 @@ def fetched(runner, folder):
 
 
 def cases():
-    return [(it.__name__, it) for it in (forms, documented, rows, terminals, helps, examples, completion, fetched)]
+    return [(it.__name__, it) for it in (forms, documented, rows, terminals, last_column, helps, examples, completion, fetched)]

@@ -116,6 +116,8 @@ def answers(runner, folder):
             by_server = runner.said(words[0], folder, *words[1:], "--service", served.url)
             equals(f"{words}", by_server, runner.said(words[0], folder, *words[1:]))
             equals(f"{words}: tenants", served.tenants(), 0)
+        text = runner.run("drain", folder, "host1", "--service", served.url)[1]
+        wants("proved, if the server's program is" in text, f"a server's program proves: {text}")
 
 
 def refused(runner, folder):

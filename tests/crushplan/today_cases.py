@@ -3,6 +3,7 @@ word, stretch mode; and what still isn't computed. Where groups lie is computed 
 primaries here."""
 import copy
 import json
+import re
 import subprocess
 
 from made import ONE, STEPS, bucket, crush_dump, osd_dump, pool, rule, text_of, write
@@ -260,6 +261,12 @@ def mixed_list(runner, folder):
     said = runner.said("upmap", folder, commands(folder, "ceph osd pg-upmap-items 2.1 0 3 ;\nceph osd rm-pg-upmap-items 1.1\n"), status=2)
     equals("the answer", said["answer"], "unknown: 0 groups move, and 0 copies are written anew; of pool odd nothing is computed.")
     equals("groups", ([it["id"] for it in said["groups"]], [it["groups"] for it in said["uncomputed"] if it["kind"] == "upmap"]), (["1.1"], [["2.1"]]))
+    up = Placed(text_of(uneven()), **PHOTOS).up[9]
+    lines = f"ceph osd pg-upmap-items 2.1 0 3 &\nceph osd pg-upmap-primary 1.9 {up[1]} ;\nceph osd rm-pg-upmap-items 1.1 &&\nwait\n"
+    runner.refused("upmap", folder, commands(folder, lines), has="line 4: it isn't 'ceph osd pg-upmap-items")
+    said = runner.said("upmap", folder, commands(folder, lines.removesuffix("wait\n")), status=2)
+    equals("primaries among them", {it["id"]: (it["primary_after"], it["copies"]) for it in said["groups"]}["1.9"], (up[1], 0))
+    wants("; 1 primary changes" in said["answer"] and "of pool odd nothing is computed" in said["answer"], said["answer"])
 
 
 def brief(placed, changed=()):
@@ -390,10 +397,34 @@ def outputs(runner, folder):
         err = ran.stderr.decode()
         equals(f"{end}: status", ran.returncode, 2)
         equals(f"{end}: words", err, f"crushplan: the answer can't be written to standard output: {words}\n")
-    code, out, err = runner.run("drain", folder, "host1", PYTHONIOENCODING="ascii")
-    equals("a narrow character set", (code, "h?st?0" in out, err), (0, True, ""))
+    for character_set, name in (("ascii", "h?st?0"), ("latin-1", "h\u00f6st?0")):
+        ran = subprocess.run(command.split(), stdout=subprocess.PIPE, stderr=subprocess.PIPE, env={**runner.environment, "PYTHONIOENCODING": character_set})
+        said = (ran.returncode, name in ran.stdout.decode(character_set), ran.stderr)
+        equals(f"a terminal of {character_set}", said, (0, True, b""))
+    for words in ("--help", "--version", "help", "drain --help"):
+        for end, why in ((">&-", "it is closed"), ("> /dev/full", "No space left on device")):
+            ran = subprocess.run(["sh", "-c", f"{' '.join(runner.command)} {words} {end}"], stdout=subprocess.PIPE, stderr=subprocess.PIPE, env=runner.environment)
+            wanted = (2, f"crushplan: the answer can't be written to standard output: {why}\n")
+            equals(f"{words} {end}", (ran.returncode, ran.stderr.decode()), wanted)
+
+
+def left_alone(runner, folder):
+    """Of a pool that isn't computed no note says how it is computed, and no answer has a zero."""
+    osd = osd_dump(12, [pool(1, "photos", object_hash=1, pg_num_target=128)])
+    osd["pg_temp"] = [{"pgid": "1.1", "osds": [3, 6, 9]}]
+    osd["primary_temp"] = [{"pgid": "1.2", "osd": 3}]
+    write(folder, crush_dump(root="straw"), osd)
+    for words in (("check", folder), ("drain", folder, "host0"), ("compare", folder, folder / "crush.json")):
+        said = runner.said(*words, status=2)
+        equals(f"{words}: notes", said["notes"], [])
+    text = runner.run("compare", folder, folder / "crush.json")[1]
+    wants(text.startswith("unknown: no pool can be computed.\n\nnot computed: ") and not re.search(r"(?<![.\w])0\b", text), text)
+    write(folder, crush_dump())
+    said = runner.said("check", folder, status=0)
+    equals("of one that is", sorted(it["kind"] for it in said["notes"]), ["object hash", "pg_temp", "primary_temp", "split"])
 
 
 def cases():
-    found = (straw2, converted, host_added, class_changed, sets, lists, primaries, mixed_list, word, sites, many_buckets, left_out, words, outputs)
+    found = (straw2, converted, host_added, class_changed, sets, lists, primaries, mixed_list, word, sites, many_buckets, left_out,
+             left_alone, words, outputs)
     return [(it.__name__, it) for it in found]

@@ -12,6 +12,8 @@ DOCUMENTS = ("README.md", "examples/README.md", "docs/REQUESTS.md", "docs/MAPS.m
 INDENT, PROMPT = "    ", "    $ "
 # what a command's first line ends with that goes on, and what its last line begins with
 LONGER = {"<<'END'": "END", "; do": "done"}
+# the documents whose commands are typed in a checkout, in which they leave no files behind
+TIDY = ("README.md", "docs/PLANNING.md")
 # commands of the server and of curl, which http/shown_pages.py runs
 SERVED = re.compile(r"\bcurl\b|\bserve\b|crushcalc\.pid")
 
@@ -64,3 +66,6 @@ def outcomes(program, words, seconds):
                 if SERVED.search(command):
                     continue
                 yield f"{name}, command {place}", fault(folder, command, wanted, seconds)
+            if document in TIDY:
+                left = sorted(str(it.relative_to(folder)) for it in pathlib.Path(folder).rglob("*") if not it.is_dir() and not it.is_symlink())
+                yield f"{name}: its commands leave no files", f"they leave {', '.join(left)}" if left else None

@@ -1,6 +1,8 @@
 """The program's arguments and its help."""
 import argparse
 
+from .faults import Fault, nearest
+
 VERSION = "0.1.0"
 ABOUT = """Says from a cluster's own dumps what a drain, a failure or a changed map does, before it is done.
 
@@ -23,11 +25,12 @@ END = """examples:
   crushplan check july                        what of it can be computed, and what can't
   crushplan drain july host3                  may host3 be drained? The summary, then usage before and after
   crushplan fail july --each rack             each rack in turn, the worst first
+  crushplan drain july 'r1h*' --html july.html   a page of it, to be sent by mail
 
 Exit status of drain and fail: 0 yes, every copy has room (and of fail no I/O stops); 1 no;
 2 what isn't computed may concern the devices. Of each command 2 where groups lie otherwise in the
 cluster than computed.
-'crushplan COMMAND --help' has an example of each command. docs/CRUSHPLAN.md has the fields of --json."""
+'crushplan help COMMAND' has an example of each command. docs/CRUSHPLAN.md has the fields of --json."""
 COMMANDS = {
     "fetch": ("writes the files of a cluster into DIR, by commands that only read it", "crushplan fetch july --ceph 'ceph --cluster backup'"),
     "check": ("says what can be computed, what can't, and where the map has holes", "crushplan check july --mend mended.txt"),
@@ -38,6 +41,8 @@ COMMANDS = {
     "upmap": ("shows what a list of upmap commands does, before it is sent", "crushplan upmap july commands.sh"),
     "locate": ("shows where objects of a pool lie, or groups", "crushplan locate july photos cat.jpg dog.jpg"),
 }
+NAMES = "a host, a rack or a device; several as osd.1-5, or by * ? [..] as 'r1h*'"
+CLASS = "of these (without names of all) the devices of a class alone, as ssd"
 STATUSES = {
     "fetch": "0 where the map and the pools were written, 2 where they weren't.",
     "check": "0 where every pool can be computed, 1 where some can, 2 where none can, or groups lie otherwise than computed.",
@@ -59,6 +64,26 @@ MORE = {
 }
 
 
+class Misuse(Exception):
+    """Arguments that aren't of the program's forms: the usage, the program and what is wrong."""
+
+    def __init__(self, parser, why):
+        super().__init__(why)
+        self.usage, self.prog = parser.format_usage(), parser.prog
+
+
+class Parser(argparse.ArgumentParser):
+    """A parser that leaves to the program how its errors are written, and its help."""
+
+    def error(self, message):
+        raise Misuse(self, message)
+
+    def print_help(self, file=None):
+        from .main import write_out
+
+        write_out(self.format_help())
+
+
 def positive(text):
     if not text.isdigit() or not 0 < int(text) <= 65536:
         raise argparse.ArgumentTypeError(f"{text!r} isn't a whole number from 1 to 65536")
@@ -67,6 +92,8 @@ def positive(text):
 
 def common(words):
     """Adds the options of all commands that compute."""
+    if words.prog.split()[-1] in DRAWN:
+        words.add_argument("--html", metavar="FILE", help="also writes the answer as a page with a drawing, one file")
     form = words.add_mutually_exclusive_group()
     form.add_argument("--json", dest="form", action="store_const", const="json", default="text", help="writes one object of JSON, with all of it")
     form.add_argument("--csv", dest="form", action="store_const", const="csv", help="writes the main table as CSV")
@@ -82,8 +109,10 @@ def common(words):
 def parser():
     """Returns the parser of all arguments."""
     raw = argparse.RawDescriptionHelpFormatter
-    whole = argparse.ArgumentParser(prog="crushplan", description=ABOUT, epilog=END, formatter_class=raw, allow_abbrev=False)
+    whole = Parser(prog="crushplan", description=ABOUT, epilog=END, formatter_class=raw, allow_abbrev=False)
     whole.add_argument("--version", action="store_true", help="says its version, and that of crushcalc")
+    # what the completions of shells ask: names of one kind that a folder has
+    whole.add_argument("--names", dest="names_of", nargs=2, metavar=("KIND", "DIR"), help=argparse.SUPPRESS)
     commands = whole.add_subparsers(dest="command", metavar="COMMAND", title="commands")
     for name, (what, example) in COMMANDS.items():
         more = f"\n\n{MORE[name]}" if name in MORE else ""
@@ -92,7 +121,42 @@ def parser():
         ADD[name](one)
         if name != "fetch":
             common(one)
+    own = {"help": "shows this, or the help of a command", "description": "Shows the help of a command."}
+    said = commands.add_parser("help", **own, allow_abbrev=False)
+    said.add_argument("topic", nargs="?", metavar="COMMAND", help="one of: " + ", ".join(COMMANDS))
+    whole.commands = commands.choices
     return whole
+
+
+def parsed(whole, words):
+    """Returns what words ask. Names may also stand behind options, where argparse, which takes no
+    names for all of them by then, leaves them."""
+    asked, rest = whole.parse_known_args(words)
+    if rest and (any(it.startswith("-") for it in rest) or not take_rest(asked, rest)):
+        whole.error(f"unrecognized arguments: {' '.join(rest)}")
+    return asked
+
+
+def take_rest(asked, rest):
+    """Takes words as further names of a command, and returns whether it has any."""
+    if asked.command in ("drain", "fail"):
+        asked.names = [*asked.names, *rest]
+    elif asked.command == "locate":
+        first = [] if asked.pool_name is None else [asked.pool_name]
+        asked.pool_name, *asked.objects = [*first, *asked.objects, *rest]
+    else:
+        return False
+    return True
+
+
+def help_of(whole, topic):
+    """Writes the help of the program, or of a command."""
+    if topic is None:
+        whole.print_help()
+    elif topic in whole.commands:
+        whole.commands[topic].print_help()
+    else:
+        raise Fault(f"there is no command {topic!r}{nearest(topic, COMMANDS)}")
 
 
 class Wrapped(argparse.RawDescriptionHelpFormatter):
@@ -124,13 +188,15 @@ def add_compare(words):
 
 
 def add_drain(words):
-    words.add_argument("names", nargs="+", metavar="NAME", help="a host, a rack or a device")
+    words.add_argument("names", nargs="*", metavar="NAME", help=NAMES)
+    words.add_argument("--class", dest="of_class", metavar="CLASS", help=CLASS)
     words.add_argument("--by", metavar="TYPE", help="usage by host, rack or another type")
     words.add_argument("--groups", action="store_true", help="lists the groups that move")
 
 
 def add_fail(words):
-    words.add_argument("names", nargs="*", metavar="NAME", help="a host, a rack or a device")
+    words.add_argument("names", nargs="*", metavar="NAME", help=NAMES)
+    words.add_argument("--class", dest="of_class", metavar="CLASS", help=CLASS)
     words.add_argument("--each", metavar="TYPE", help="every host, rack or osd in turn: one line each, the worst first")
     words.add_argument("--by", metavar="TYPE", help="usage by host, rack or another type")
     words.add_argument("--groups", action="store_true", help="lists the groups that are short, and those that move")
@@ -146,4 +212,5 @@ def add_locate(words):
     words.add_argument("--group", action="append", default=[], metavar="GROUP", help="a group, as 5.1f, in place of a pool and objects; may stand several times")
 
 
+DRAWN = ("check", "usage", "compare", "drain", "fail", "upmap")
 ADD = {"fetch": add_fetch, "check": add_check, "usage": add_usage, "compare": add_compare, "drain": add_drain, "fail": add_fail, "upmap": add_upmap, "locate": add_locate}

@@ -1,11 +1,13 @@
 """`crushplan check`: what of a folder can be computed, and what can't."""
+import collections
 import pathlib
 
 from .cluster import DF, MAP_DUMP, MAP_TEXT, OSD_DF, OSD_DUMP, PGS
 from .computable import count_of
+from .drawing import of_counts
 from .faults import Fault, counted, some
 from .output import Answer, Table
-from .pgs import Compared, by_device, is_steady
+from .pgs import Compared, by_device, entries_said, is_steady
 from .write_text import Text
 
 MOST_LINES = 20  # of groups that lie otherwise
@@ -35,7 +37,8 @@ def check(plan, asked):
         "holes": [{"bucket": bucket.name, "pos": place} for bucket, place in holes_of(plan.map)], "lying": lying.said(),
     }  # fmt: skip
     rows = [["pool", "name", "computed", "why"]] + [[it["pool"], it["name"], int(it["computed"]), it["why"] or ""] for it in pools]
-    return Answer(2 if lying.differs() else status, f"{sentence}{lying.sentence()}.", fields, blocks, rows)
+    status = 2 if lying.differs() else status
+    return Answer(status, f"{sentence}{lying.sentence()}.", fields, blocks, rows, lying.drawing)
 
 
 class Lying:
@@ -43,18 +46,35 @@ class Lying:
     device has."""
 
     def __init__(self, plan):
-        self.plan, self.compared, self.devices, self.looked = plan, None, [], False
+        self.plan, self.compared, self.devices, self.looked, self.entries = plan, None, [], False, collections.Counter()
         if not plan.pools:
             return
         run, by_group = plan.run(), plan.cluster.groups is not None
         asked = {id_: run.lists(id_, range(it.pg_num)) if by_group else run.usage(id_) for id_, it in plan.pools.items()}
         plan.answer(run)
         if by_group:
-            self.compared = Compared(plan, {id_: run.placements(it) for id_, it in asked.items()})
+            placements = {id_: run.placements(it) for id_, it in asked.items()}
+            self.compared = Compared(plan, placements)
+            for it in (it for own in placements.values() for it in own.values()):
+                self.entries.update(device for device in it.up if device is not None)
         else:
             usages = {id_: run.counted(it) for id_, it in asked.items()}
             self.looked = is_steady(plan, usages) and any(it.groups is not None for it in plan.cluster.rooms.values())
             self.devices = by_device(plan, usages)
+            for it in usages.values():
+                self.entries.update(it.entries)
+
+    def drawing(self):
+        """Returns the drawing of how many groups each device has as computed, beside how many the
+        cluster says that it has, where it does."""
+        plan, before = self.plan, None
+        if plan.cluster.groups is not None:
+            said = [entries_said(plan, it) for it in plan.pools.values()]
+            before = None if None in said else sum(map(collections.Counter, said), collections.Counter())
+        elif self.looked:
+            before = {device: it.groups for device, it in plan.cluster.rooms.items() if it.groups is not None}
+        words = ("in the cluster" if before else None, "computed")
+        return of_counts(plan, "Groups of the computed pools, by device", words, before or None, self.entries)
 
     def differs(self):
         return bool(self.devices or self.compared and self.compared.others)

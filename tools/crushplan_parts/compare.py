@@ -1,10 +1,12 @@
 """`crushplan compare`: what moves where a map is changed."""
+import collections
 import fractions
 import pathlib
 
 from .cluster import State, text_of
 from .computable import pool_fault
 from .crush_map import mark_holes
+from .drawing import of_counts
 from .faults import counted, some
 from .output import Answer, Table, devices_text, sized
 from .placing import Note
@@ -134,7 +136,16 @@ def compare(plan, asked):
         fields["groups"] = [{"pool": pool.id, "group": group, "id": pool.group_name(group), "before": old, "after": now, "primary_before": primary(plan, pool, group, old), "primary_after": primary(plan, pool, group, now), "copies": count} for pool, group, old, now, count in groups]
     else:
         own = [HOST_HEADS, *hosts]
-    return Answer(status, sentence, fields, blocks, own)
+    return Answer(status, sentence, fields, blocks, own, lambda: drawn(plan, new.map, changes))
+
+
+def drawn(plan, map_, changes):
+    """Returns the drawing of copies before and after."""
+    before, after = collections.Counter(), collections.Counter()
+    for it in changes:
+        before.update(it.before.entries)
+        after.update(it.after.entries)
+    return of_counts(plan, "Copies, by device", ("before", "after"), before, after, Tree(map_))
 
 
 def nothing(new, with_groups):
@@ -156,7 +167,7 @@ class Compared:
     """What a changed map moves in one pool."""
 
     def __init__(self, plan, map_, pool, before, after, moves):
-        self.pool, self.moves = pool, moves
+        self.pool, self.moves, self.before, self.after = pool, moves, before, after
         written = [(group, written_anew(pool, *both)) for group, both in self.moves.items()]
         self.copies = sum(copies for _, copies in written)
         self.change = PoolChange(pool, before, set(), [])

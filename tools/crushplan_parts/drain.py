@@ -1,7 +1,9 @@
 """`crushplan drain`: hosts, racks or devices out, on paper."""
 from .after_drain import AfterDrain
 from .changing import Start, pool_changes
+from .drawing import of_devices
 from .faults import counted, some
+from .names import Chosen, names_in
 from .output import Answer, sized
 from .reports import Stay, groups_rows, groups_table, pools_table, status_of, summary_table, usage_rows, usage_table, used_said, verdict, warn_of_flags, warn_of_room
 from .stages import Stages, states_after
@@ -10,7 +12,8 @@ from .summary import Summary
 
 def drain(plan, asked):
     """Answers what a drain does: the reweights of devices become 0."""
-    devices = plan.tree.devices_of(asked.names)
+    chosen = Chosen(plan, names_in(asked, "drain"), asked.of_class)
+    devices = chosen.devices
     later = AfterDrain(plan, devices)
     drained = states_after(plan, devices, reweight=0)
 
@@ -32,10 +35,12 @@ def drain(plan, asked):
         "purge": later.purge.said(asked.groups),
         "weight_first": {**later.weight_first.said(asked.groups), "left": later.left, "past_backfillfull": [it for it, _ in later.too_full], "then_purge": later.then_purge.said(asked.groups)},
     }  # fmt: skip
-    blocks = [summary_table(plan, summary, stay), pools_table(summary), usage_table(plan, summary, asked.by), purge_text(later, devices) if plan.pools else None]
+    blocks = [chosen.text(), summary_table(plan, summary, stay), pools_table(summary), usage_table(plan, summary, asked.by), purge_text(later, devices) if plan.pools else None]
     if asked.groups:
         blocks.append(groups_table(summary.moves))
-    return Answer(status, verdict(summary, stay, status), fields, blocks, groups_rows(plan, summary.moves) if asked.groups else usage_rows(summary))
+    rows = groups_rows(plan, summary.moves) if asked.groups else usage_rows(summary)
+    drawing = lambda: of_devices(plan, summary.devices, asked.by)
+    return Answer(status, verdict(summary, stay, status), fields, blocks, rows, drawing)
 
 
 def in_bytes(value):

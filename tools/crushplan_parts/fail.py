@@ -1,6 +1,8 @@
 """`crushplan fail`: hosts, racks or devices that go down, and later out."""
 from .changing import Start, pool_changes, short_now
+from .drawing import of_devices, of_each
 from .faults import Fault, counted, some
+from .names import Chosen, names_in, of_class
 from .output import Answer, Progress, Sized, Table, devices_text, shown, sized
 from .reports import COPY, Stay, groups_rows, groups_table, listed, pools_table, status_of, summary_table, usage_rows, usage_table, verdict, warn_of_flags, warn_of_room
 from .shares import hundredths
@@ -84,21 +86,22 @@ def fail(plan, asked):
         if asked.names:
             raise Fault("crushplan fail takes either names or --each TYPE")
         return fail_each(plan, asked)
-    if not asked.names:
-        raise Fault("crushplan fail wants the names of hosts, racks or devices, or --each TYPE")
-    devices = plan.tree.devices_of(asked.names)
+    chosen = Chosen(plan, names_in(asked, "fail"), asked.of_class)
+    devices = chosen.devices
     start = Start(plan, devices)
     it = Failure(plan, start, devices)
     stay = Stay(plan, start, devices, it.summary.changes)
     warn_of_room(plan)
-    warn_of_outs(plan, asked.names, devices)
+    warn_of_outs(plan, chosen.names, devices)
     stretched = plan.stretched(devices)
     status = status_of(plan, it.summary, stay, it.down.stopped) or (UNKNOWN if stretched else 0)
     fields = lambda: {"devices": devices, "down": it.down.said(asked.groups), "out": it.summary.said(asked.groups), "stay": stay.said()}
-    blocks = [it.down.table(it.summary.groups) if plan.pools else None, it.down.pools_table(), summary_table(plan, it.summary, stay, "Once they are out:", devices), pools_table(it.summary), usage_table(plan, it.summary, asked.by)]
+    blocks = [chosen.text(), it.down.table(it.summary.groups) if plan.pools else None, it.down.pools_table(), summary_table(plan, it.summary, stay, "Once they are out:", devices), pools_table(it.summary), usage_table(plan, it.summary, asked.by)]
     if asked.groups:
         blocks += [it.down.groups_table(), groups_table(it.summary.moves)]
-    return Answer(status, verdict(it.summary, stay, status, it.down.stopped, stretched), fields, blocks, rows_of(plan, it) if asked.groups else usage_rows(it.summary))
+    rows = rows_of(plan, it) if asked.groups else usage_rows(it.summary)
+    sentence = verdict(it.summary, stay, status, it.down.stopped, stretched)
+    return Answer(status, sentence, fields, blocks, rows, lambda: of_devices(plan, it.summary.devices, asked.by))
 
 
 def rows_of(plan, it):
@@ -180,7 +183,11 @@ def fail_each(plan, asked):
     items = plan.tree.buckets_of_type(plan.tree.type_number(asked.each))
     if not items:
         raise Fault(f"no {asked.each} has devices")
-    units = [(it, [d for d in dict.fromkeys(plan.map.below(it)) if d in plan.known]) for it in items]
+    own = of_class(plan, asked.of_class)
+    units = [(it, [d for d in own(dict.fromkeys(plan.map.below(it))) if d in plan.known]) for it in items]
+    units = [it for it in units if it[1] or asked.of_class is None]
+    if not units:
+        raise Fault(f"no {asked.each} has devices of the class {asked.of_class}")
     start = Start(plan, sorted({device for _, devices in units for device in devices}))
     start.lists_now()
     found, levels, progress = [], Levels(plan), Progress(len(units), asked.each + "s")
@@ -200,7 +207,9 @@ def fail_each(plan, asked):
     status = 1 if 1 in statuses else 2 if 2 in statuses else 0
     own = [list(rows[0])[:-1] + ["fullest", "fullest_percent", "fullest_used"]] + [[*list(it.values())[:-1], *((it["fullest"] or {}).get(key) for key in ("name", "percent_after", "used_after"))] for it in rows]
     has = "room" if all(it.knows_room for it in found) else "a device"
-    return Answer(status, each_sentence(plan, asked.each, statuses, has), {"type": asked.each, "each": rows}, [each_table(asked.each, found), each_words(rows)] if plan.pools else [], own)
+    blocks = [each_table(asked.each, found), each_words(rows)] if plan.pools else []
+    fields, drawing = {"type": asked.each, "each": rows}, (lambda: of_each(plan, asked.each, rows)) if plan.pools else None
+    return Answer(status, each_sentence(plan, asked.each, statuses, has), fields, blocks, own, drawing)
 
 
 def each_of(plan, start, levels, units):
@@ -229,7 +238,7 @@ def each_table(name, found):
     if any(it.is_in_part for it in found):
         heads = (*heads, "computed")
         table = [(*row, "nothing" if it.is_blank else "in part" if it.is_in_part else "all") for row, it in zip(table, found)]
-    return Table(heads, table, spare=(1, 3, 8))
+    return Table(heads, table, spare=(1, 3, 8), uncut=(9,))
 
 
 def each_words(rows):

@@ -9,6 +9,7 @@ import tempfile
 from .faults import Fault
 from .fields import load
 from .output import Answer
+from .waiting import waiting
 
 FILES = (
     ("osd.json", ("osd", "dump", "-f", "json")), ("crush.json", ("osd", "crush", "dump", "-f", "json")),
@@ -21,6 +22,7 @@ SECONDS = 120
 
 def ran(words):
     """Returns what a command writes; a Fault says what it said where it failed."""
+    waiting.at(shlex.join(words))
     try:
         done = subprocess.run(words, stdin=subprocess.DEVNULL, stdout=subprocess.PIPE, stderr=subprocess.PIPE, timeout=SECONDS)
     except FileNotFoundError:

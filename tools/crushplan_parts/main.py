@@ -1,4 +1,5 @@
 """The program from its arguments to its exit status."""
+import argparse
 import importlib
 import json
 import os
@@ -22,12 +23,13 @@ def client_of(asked, beside):
 
 
 def said_version(beside):
-    print(f"crushplan {arguments.VERSION}")
+    """Writes the version, and that of the program."""
     try:
         program = Script(found_program(os.environ.get("CRUSHCALC"), beside))
-        print(f"{program.version()} ({program.where})")
+        said = f"{program.version()} ({program.where})"
     except Fault as fault:
-        print(fault)
+        said = fault
+    write_out(f"crushplan {arguments.VERSION}\n{said}\n")
 
 
 def answered(asked, beside):
@@ -35,20 +37,29 @@ def answered(asked, beside):
     # of the commands that one alone is read which is asked for
     command = getattr(importlib.import_module(f".{asked.command}", __package__), asked.command)
     from .output import written
+    from .waiting import waiting
 
-    if asked.command == "fetch":
-        answer, plan = command(asked), None
-    else:
-        from .cluster import read_cluster
-        from .placing import Plan
+    with waiting:
+        if asked.command == "fetch":
+            answer, plan, client = command(asked), None, None
+        else:
+            from .cluster import read_cluster
+            from .placing import Plan
 
-        cluster, client = read_cluster(asked.folder, asked), client_of(asked, beside)
-        try:
-            plan = Plan(cluster, client)
-            answer = doubted(command(plan, asked), plan.doubt)
-        finally:
-            client.end()
-    write_out(written(answer, asked.command, asked.form, plan))
+            waiting.at(f"reading {asked.folder}")
+            cluster, client = read_cluster(asked.folder, asked), client_of(asked, beside)
+            try:
+                plan = Plan(cluster, client)
+                answer = doubted(command(plan, asked), plan.doubt)
+            finally:
+                client.end()
+        if getattr(asked, "html", None):
+            from .page import write_page
+
+            waiting.at(f"writing {asked.html}")
+            write_page(asked.html, answer, asked, plan)
+        text = written(answer, asked.command, asked.form, plan)
+    write_out(text)
     return answer.status
 
 
@@ -106,10 +117,26 @@ def doubted(answer, doubt):
 
 def failed(asked, why):
     """Says why there is no answer, in JSON too where that was asked for."""
-    if getattr(asked, "form", "") == "json" and not isinstance(sys.stdout, Closed):
-        print(json.dumps({"crushplan": 1, "command": asked.command, "status": FAILED, "error": why}))
-    print(f"crushplan: {why}", file=sys.stderr)
+    return failed_by(asked.command, why, f"crushplan: {why}\n", getattr(asked, "form", "") == "json")
+
+
+def failed_by(command, why, text, with_json):
+    """Writes text on standard error, and with JSON first, as far as both can be written."""
+    try:
+        if with_json and not isinstance(sys.stdout, Closed):
+            write_out(json.dumps({"crushplan": 1, "command": command, "status": FAILED, "error": why}) + "\n")
+    except (Fault, OSError):
+        close_out()
+    sys.stderr.write(text)
     return FAILED
+
+
+def misused(wrong, words):
+    """Says what is wrong with the arguments, as JSON too where they ask for it."""
+    first = next((it for it in words if not it.startswith("-")), None)
+    command = first if first in arguments.COMMANDS else None
+    own = words[: words.index("--")] if "--" in words else words
+    return failed_by(command, str(wrong), f"{wrong.usage}{wrong.prog}: error: {wrong}\n", "--json" in own)
 
 
 def terminated(*_):
@@ -120,16 +147,26 @@ def main(words, beside):
     """Does what the arguments ask. `beside` are the places where crushcalc may be."""
     signal.signal(signal.SIGTERM, terminated)
     open_streams()
-    parser = arguments.parser()
-    asked = parser.parse_args(words)
-    if asked.version:
-        said_version(beside)
-        return 0
-    if not asked.command:
-        parser.print_help(sys.stderr)
-        return FAILED
+    asked = argparse.Namespace(command=None)
     try:
+        parser = arguments.parser()
+        asked = arguments.parsed(parser, words)
+        if asked.version:
+            said_version(beside)
+            return 0
+        if asked.names_of:
+            from .names import write_names
+
+            return write_names(*asked.names_of)
+        if asked.command == "help":
+            arguments.help_of(parser, asked.topic)
+            return 0
+        if not asked.command:
+            sys.stderr.write(parser.format_help())
+            return FAILED
         return answered(asked, beside)
+    except arguments.Misuse as wrong:
+        return misused(wrong, words)
     except Fault as fault:
         return failed(asked, str(fault))
     except KeyboardInterrupt:

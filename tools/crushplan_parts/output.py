@@ -4,6 +4,8 @@ import os
 import sys
 import time
 
+from .waiting import is_shown, waiting
+
 UNITS = ("B", "KiB", "MiB", "GiB", "TiB", "PiB", "EiB")
 RED, GREEN, YELLOW, BOLD, PLAIN = "\033[31m", "\033[32m", "\033[33m", "\033[1m", "\033[0m"
 COLOURS = {0: GREEN, 1: RED, 2: YELLOW}
@@ -14,24 +16,27 @@ NARROW = 20  # of a last column whose words go on in further lines
 class Answer:
     """What a command found: its status, one sentence, the fields of its JSON, blocks of text for
     people, and the rows of its CSV with their heads first. The fields may be a function that
-    returns them."""
+    returns them; `drawing` is one that returns what is drawn of it (drawing.py), or None."""
 
-    def __init__(self, status, sentence, fields, blocks, rows):
-        self.status, self.sentence, self.fields, self.blocks, self.rows = status, sentence, fields, blocks, rows
+    def __init__(self, status, sentence, fields, blocks, rows, drawing=None):
+        self.status, self.sentence, self.fields = status, sentence, fields
+        self.blocks, self.rows, self.drawing = blocks, rows, drawing
 
 
 class Table:
     """Rows under heads; numbers stand at the right. A title stands above. Where a terminal is too
     narrow, the columns `spare` are left out, the words of a last column go on below, or columns are
-    cut."""
+    cut, but no numbers, no last column and none of `uncut`."""
 
-    def __init__(self, heads, rows, title=None, spare=()):
-        self.heads, self.rows, self.title, self.spare = heads, rows, title, spare
+    def __init__(self, heads, rows, title=None, spare=(), uncut=()):
+        self.heads, self.rows, self.title, self.spare, self.uncut = heads, rows, title, spare, uncut
 
     def without(self, place):
         """Returns the table without a column."""
         cut_out = lambda row: [*row[:place], *row[place + 1 :]]
-        return Table(cut_out(self.heads), [cut_out(it) for it in self.rows], self.title, [it - 1 for it in self.spare if it > place])
+        moved = lambda places: [it - (it > place) for it in places if it != place]
+        rows = [cut_out(it) for it in self.rows]
+        return Table(cut_out(self.heads), rows, self.title, moved(self.spare), moved(self.uncut))
 
     def text(self, width):
         cells = [[shown(it) for it in row] for row in self.rows]
@@ -43,11 +48,14 @@ class Table:
         wrapped = over > 0 and not right[-1] and widths[-1] - over >= NARROW
         if wrapped:
             widths[-1] -= over
+        least = [NARROWEST] * len(widths)
+        for place in [it for it, of in enumerate(right) if of] + [*self.uncut] + [len(widths) - 1] * (not wrapped):
+            least[place] = max((len(row[place]) for row in cells), default=0)  # of these the head alone is cut
         while width and sum(widths) + 2 * len(widths) > width:
-            widest = max(range(len(widths)), key=lambda it: widths[it])
-            if widths[widest] <= NARROWEST:
+            wide = [it for it in range(len(widths)) if widths[it] > least[it]]
+            if not wide:
                 break
-            widths[widest] -= 1
+            widths[max(wide, key=lambda it: widths[it])] -= 1
         lines = [self.title] if self.title else []
         for row in ([list(self.heads)] if any(self.heads) else []) + cells:
             *first, last = row
@@ -162,7 +170,9 @@ class Progress:
     """A bar on standard error with the time that is left; nothing where that is no terminal."""
 
     def __init__(self, whole, what):
-        self.whole, self.what, self.start, self.shown = whole, what, time.monotonic(), sys.stderr.isatty() and whole > 1
+        self.whole, self.what, self.start, self.shown = whole, what, time.monotonic(), is_shown() and whole > 1
+        if self.shown:
+            waiting.give_way(True)
 
     def at(self, done):
         if not self.shown:
@@ -177,3 +187,4 @@ class Progress:
         if self.shown:
             sys.stderr.write("\r\033[K")
             sys.stderr.flush()
+            waiting.give_way(False)

@@ -49,7 +49,8 @@ class Plan:
         self.exceptions = Exceptions(cluster.lists, cluster.primaries, cluster.affinity)
         self.affine = {it.id for it in self.pools.values() if cluster.affinity.keys() & self.may_have(it)}
         self.keeper = Keeper(self.map, self.state)
-        self.note_oddities()
+        self.note_oddities(self.pools)
+        self.note_rounded_sets()
 
     # ---- what is computed
 
@@ -121,6 +122,7 @@ class Plan:
         self.notes = [it for it in self.notes if not (it.open and it.pools == [pool.id])]
         self.pairs[pool.id] = self.known_pairs(pool)
         self.by_exception.pop(pool.id, None)
+        self.note_oddities({pool.id: pool})
 
     def known_pairs(self, pool):
         """Returns the upmap items of a pool that crushcalc can have: of its groups, and of devices
@@ -135,10 +137,11 @@ class Plan:
                 found[group] = own
         return found
 
-    def note_oddities(self):
-        """Notes what the files have that placements here don't have."""
+    def note_oddities(self, pools):
+        """Notes what the files have that placements here don't have, of pools that are computed, by
+        id."""
         cluster = self.cluster
-        for pool in cluster.pools.values():
+        for pool in pools.values():
             if pool.split_to:
                 self.notes.append(Note("split", f"pool {pool.name} is being split or merged (pg_num {pool.pg_num} on its way to {pool.split_to[0]}, pgp_num {pool.pgp_num} to {pool.split_to[1]}): it is computed as it is now, and its groups move by themselves", pools=[pool.id], devices=self.devices_of(pool), open_=False))
             if pool.object_hash != 2:
@@ -146,7 +149,12 @@ class Plan:
             if pool.bytes is not None and pool.pg_num & (pool.pg_num - 1):
                 self.notes.append(Note("pg_num", f"pool {pool.name} has {pool.pg_num} groups, which is no power of two: some of them have twice the objects of others. What moves, and how full devices get, is said by that, but bytes before and after as if all had as many", pools=[pool.id], devices=self.devices_of(pool), open_=False))
         for kind in ("pg_temp", "primary_temp"):
-            self.note_groups(kind, cluster.temporary.get(kind, {}), f"a temporary {'list' if kind == 'pg_temp' else 'primary'} ({kind})", "what is said is where they lie once that is over")
+            own = {pool: groups for pool, groups in cluster.temporary.get(kind, {}).items() if pool in pools}
+            has = f"a temporary {'list' if kind == 'pg_temp' else 'primary'} ({kind})"
+            self.note_groups(kind, own, has, "what is said is where they lie once that is over")
+
+    def note_rounded_sets(self):
+        """Notes which groups may lie otherwise by weight sets that are rounded."""
         for key, pools in sets_in_use(self.map, self.pools.values()).items():
             if self.map.weight_sets[key].rounded:
                 self.notes.append(Note("weight set", f"{self.map.file} has rounded weights of 256 and more in the weight set choose_args {key}: a few groups of {self.pools_text([it.id for it in pools])} may lie otherwise", pools=[it.id for it in pools], open_=False))

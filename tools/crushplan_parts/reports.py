@@ -8,6 +8,7 @@ from .shares import hundredths, percent, rounded
 from .summary import bytes_after, looks_at_room, whole
 
 MOST_ROWS = 40  # devices in a table of usage; where there are more, hosts are shown
+PROVED = {True: "not proved: the program is unproved", False: "proved", None: "proved, if the server's program is"}
 COPY = ("copy", "copies")
 HOLDING = ("norebalance", "nobackfill", "norecover")
 NO_ROOM = "how full devices get isn't looked at (that takes df.json, osd-df.json and the ratios of osd.json)"
@@ -113,7 +114,7 @@ def summary_table(plan, summary, stay, title=None, down=()):
         ("groups that move", f"{len(summary.moves):,} of {summary.groups:,}"),
         ("copies that are written anew", f"{summary.copies:,}" + (f", {sized(summary.bytes)}" if summary.bytes is not None else "")),
         ("fullest device afterwards", fullest_text(plan, summary)),
-        ("not proved: the program is unproved" if plan.client.is_unproved() else "proved", proved_text(summary, down)),
+        (PROVED[plan.client.is_unproved()], proved_text(summary, down)),
     ]
     if summary.past["nearfull_ratio"]:
         rows.insert(4, ("past the near-full ratio", some([shown_used(it) for it in summary.past["nearfull_ratio"]])))

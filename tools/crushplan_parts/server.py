@@ -99,6 +99,10 @@ class Server:
     def version(self):
         return "unknown"
 
+    def words(self):
+        """Returns who answers, in words."""
+        return f"the server {self.where}, which doesn't say whether its program is proved"
+
     def is_unproved(self):
-        """A server doesn't say which program it is."""
-        return False
+        """Returns None: a server doesn't say which program it is."""
+        return None

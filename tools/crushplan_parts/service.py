@@ -9,6 +9,7 @@ import threading
 
 from .faults import Fault
 from .settled import Placement
+from .waiting import waiting
 
 MOST_JOBS = 4  # programs side by side
 JOBS = min(MOST_JOBS, len(os.sched_getaffinity(0)) if hasattr(os, "sched_getaffinity") else os.cpu_count() or 1)
@@ -168,6 +169,10 @@ class Script:
             return []
         return re.findall(r"[^\s(),:;]+", ran.stdout.decode(errors="replace"))
 
+    def words(self):
+        """Returns which program answers, in words."""
+        return self.version()
+
     def is_unproved(self):
         """Returns whether the program says of itself that it is unproved."""
         return UNPROVED in self.version_words()
@@ -222,4 +227,11 @@ def side_by_side(client, works):
 
 def at_once(client, runs):
     """Answers several runs, side by side where that can be."""
-    return side_by_side(client, [lambda it=it: client.run(it) for it in runs])
+
+    def answered(requests):
+        waiting.ask(len(requests))
+        replies = client.run(requests)
+        waiting.take(len(requests))
+        return replies
+
+    return side_by_side(client, [lambda it=it: answered(it) for it in runs])

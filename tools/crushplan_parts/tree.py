@@ -62,16 +62,6 @@ class Tree:
                 return number
         raise Fault(f"{self.map.file} has no type {name!r}{nearest(name, self.map.types.values())}")
 
-    def devices_of(self, names):
-        """Returns the devices at and below names, each once, by id."""
-        found = {}
-        for name in names:
-            below = self.map.below(self.item(name))
-            if not below:
-                raise Fault(f"{name} has no devices")
-            found.update(dict.fromkeys(below))
-        return sorted(found)
-
     def buckets_of_type(self, number):
         """Returns the items of a type that have devices: buckets, or the devices themselves."""
         if number == 0:

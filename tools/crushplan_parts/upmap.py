@@ -4,6 +4,7 @@ import re
 import sys
 
 from .cluster import text_of
+from .drawing import of_devices
 from .faults import Fault, counted, some
 from .output import Answer, Table, devices_text, sized
 from .placing import Note
@@ -148,7 +149,12 @@ def upmap(plan, asked):
     fields = {"moved": moved, "copies": copies, "bytes": whole(bytes_), "groups": rows, "evenness": even}
     heads = ["pool", "group", "id", "pairs", "before", "after", "copies", "breaks", "remarks"]
     own = [heads] + [[it["pool"], it["group"], it["id"], pairs_text(it["pairs"]), listed(it["before"]), listed(it["after"]), it["copies"], it["breaks"] or "", "; ".join(it["remarks"])] for it in rows]
-    return Answer(status, sentence, fields, blocks, own)
+    return Answer(status, sentence, fields, blocks, own, lambda: changed_devices(plan, changes))
+
+
+def changed_devices(plan, changes):
+    """Returns the drawing of the devices that get more or less."""
+    return of_devices(plan, [it for it in devices_of(plan, changes) if it.before != it.after])
 
 
 def refusals(refused, cut, idle):

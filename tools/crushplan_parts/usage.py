@@ -1,4 +1,6 @@
 """`crushplan usage`: how much lies where, beside what weights and reweights ask for."""
+
+from .drawing import of_shares
 from .faults import Fault, nearest
 from .output import Answer, Table, devices_text, shown, sized
 from .shares import hundredths, percent, rounded
@@ -57,7 +59,7 @@ def usage(plan, asked):
         fields["groups"] = [{"pool": it.id, "group": group, "id": it.group_name(group), "raw": placement.raw, "up": placement.up, "primary": placement.primary} for it, group, placement in groups]
         blocks.append(Table(("group", "raw", "up", "primary"), [(it.group_name(group), devices_text(placement.raw), devices_text(placement.up), placement.primary) for it, group, placement in groups], "Groups:"))
         own = [["pool", "group", "id", "raw", "up", "primary"]] + [[it.id, group, it.group_name(group), listed(placement.raw), listed(placement.up), placement.primary] for it, group, placement in groups]
-    return Answer(0 if pools else 2, sentence, fields, blocks, own)
+    return Answer(0 if pools else 2, sentence, fields, blocks, own, lambda: of_shares(rows, heads[0]))
 
 
 def devices_of_others(plan):
