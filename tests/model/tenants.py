@@ -186,7 +186,8 @@ class Tenant:
             for it in asked["devices"]:
                 reweight, up = self.state(it["id"])
                 self.states[it["id"]] = (it.get("reweight", reweight), it.get("up", up))
-            self.answers.clear()
+                if self.state(it["id"])[0] != reweight:
+                    self.answers.clear()
 
         return messages.accepted(len(asked["devices"]), epoch), act
 

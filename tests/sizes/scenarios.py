@@ -324,7 +324,7 @@ def tenants_of_large_maps():
 
 def groups():
     """65,536 groups: a pool with as many seeds on a bucket of three, and one with 16,385 seeds."""
-    kinds = ("tree", "list", "straw2")
+    kinds = ("straw2", "list", "tree")
     start = [create("a"), *(import_of("a", f"m{number}", in_one(kind, 3, seed)) for number,
         (seed, kind) in enumerate(zip((7, 7, 7), kinds)))]
     pools = [pool_of("a", 1, groups=65_536, size=1),
@@ -332,7 +332,7 @@ def groups():
             pool_of("a", 3, groups=65_535, places=16_385, size=2)]
     usages, impacts = [get("a", f"pools/{it}/usage") for it in (1, 2, 3)], [get("a", f"pools/{it}/impact/1")
         for it in (1, 2)]
-    moves = [get("a", "pools/1/moves/1/2"), get("a", "pools/2/moves/1/3"), get("a", "pools/3/moves/2/3")]
+    moves = [get("a", "pools/2/moves/1/3"), get("a", "pools/3/moves/2/3")]
     located = [post("a", f"pools/{1 + it % 3}/locate", name=f"object-{it}") for it in range(300)]
     ends = [get("a", f"pools/{pool}/groups/{group}") for pool in (1, 2, 3)
         for group in (0, 16_384, 16_385, 32_767, 32_768, 65_534, 65_535)]
@@ -341,8 +341,8 @@ def groups():
     return [
         [*start, *pools, *usages, *moves, *impacts],
         [*moves, *usages, *located, *ends, pairs, *usages[1:],
-            post("a", "devices", request="d", devices=[{"id": 2, "up": False}]), *moves[1:], *usages[1:]],
-        [pairs, *usages[1:], *moves[1:], *impacts[1:], *ends, *located, drop("a"), usages[0]],
+            post("a", "devices", request="d", devices=[{"id": 2, "up": False}]), *moves, *usages[1:]],
+        [pairs, *usages[1:], *moves, *impacts[1:], *ends, *located, drop("a"), usages[0]],
     ]
 
 
