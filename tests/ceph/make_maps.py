@@ -358,6 +358,38 @@ def shared_map(seed, kinds=KINDS, name="shared"):
     return map_.rule(*steps, sizes=(2, 4, 7, 10))
 
 
+def late():
+    """What only late tries and great numbers tell apart: vary_r above 4, where one of ten hosts is
+    rarely picked; the last of a thousand tries, for items and for leaves; and devices past the ids
+    of 15 bits that are in in part."""
+    for vary_r in range(5, 9):
+        for stable in (0, 1):
+            map_ = Map(f"vary_r_{vary_r}_stable_{stable}", (999, 1, vary_r, stable))
+            hosts = [map_.bucket("list", HOST, map_.take_devices(5)) for _ in range(10)]
+            map_.bucket("tree", ROOT, [(id_, ONE // 24 if place == 4 else weight) for place, (id_, weight) in enumerate(hosts)], -1)
+            yield map_.rule("take -1", leaves("firstn"), "emit", sizes=(10,))
+    for mode, kind, less, tunables in (("firstn", "list", 1000, (999, 1, 1, 1)), ("indep", "tree", 800, JEWEL)):
+        map_ = Map(f"a_thousand_tries_{mode}", tunables)
+        map_.bucket(kind, ROOT, [(0, ONE), (1, ONE // less)], -1)
+        map_.devices = 2
+        yield map_.rule(*(() if mode == "firstn" else ("set_choose_tries 1000",)), "take -1", chosen(mode, 2, "osd"), "emit", sizes=(2,))
+    for mode, kind, less in (("firstn", "straw2", 800), ("indep", "tree", 1000)):
+        map_ = Map(f"a_thousand_tries_for_a_leaf_{mode}")
+        for host in (1, 2):
+            map_.bucket(kind, HOST, [(0, ONE), (host, ONE // less)], -1 - host)
+        map_.bucket("list", ROOT, [(-2, ONE), (-3, ONE)], -1)
+        map_.devices = 3
+        if mode == "indep":
+            map_.reweight(0, 0)
+        yield map_.rule("set_choose_tries 3", "set_chooseleaf_tries 1000", "take -1", leaves(mode, 2), "emit", sizes=(2,))
+    map_ = Map("great_ids_in_part")
+    hosts = [map_.bucket("list", HOST, map_.name_devices([(it, ONE) for it in range(first, first + 3)])) for first in (32_766, 40_000, 49_151, 65_533)]
+    map_.bucket("list", ROOT, hosts, -1)
+    for place, device in enumerate(map_.ids):
+        map_.reweight(device, ONE * (1 + place % 7) // 8)
+    yield map_.rule("take -1", leaves("firstn"), "emit", sizes=(2, 4))
+
+
 def all_maps():
     for group in (by_kind, mixed, weights, levels, counts, tunables, odd):
         yield from group()
@@ -370,6 +402,7 @@ def all_maps():
         yield random_map(seed, WITH_STRAW2, "straw2_random")
     for seed in range(101, 106):
         yield shared_map(seed, WITH_STRAW2, "straw2_shared")
+    yield from late()
 
 
 def main():
