@@ -55,10 +55,20 @@ def random_weights():
     return lambda d: drawn.randrange(1, 16 * ONE)
 
 
-def racks_of_twelve(kind, weight, size=3):
-    """Eight racks of ten hosts of twelve devices, all buckets of this kind."""
-    it = tree_of(Map("twelve"), [kind] * 3, 8, 10, 12, weight)
+def racks_of(kind, weight, size, name, *shape):
+    """So many racks of so many hosts of so many devices, all buckets of this kind."""
+    it = tree_of(Map(name), [kind] * 3, *shape, weight)
     return it.rule("take -1", f"chooseleaf firstn {size} {HOST}", "emit", sizes=(size,)).text()
+
+
+def racks_of_twelve(kind, weight, size=3):
+    """Eight racks of ten hosts of twelve devices."""
+    return racks_of(kind, weight, size, "twelve", 8, 10, 12)
+
+
+def racks_of_32(kind, weight, size=3):
+    """Four racks of eight hosts of 32 devices."""
+    return racks_of(kind, weight, size, "racks", 4, 8, 32)
 
 
 def flat(kind, count, weight):

@@ -11,6 +11,7 @@ from made import cluster, crush_dump
 from running import SECONDS, equals, wants
 
 TOP = pathlib.Path(__file__).resolve().parent.parent.parent
+REAL = TOP / "tests" / "cluster" / "data"
 README, FENCE, FIRST = TOP / "README.md", "```", "ceph osd crush dump"
 KEPT = ("holes", "holes-of-one", "reweighted")
 PLAIN, OTHER = [1.0, 1.0, 1.0], [1.0, 0.5, 1.0]
@@ -88,9 +89,13 @@ def said(folder, dump):
 
 
 def kept(_, folder):
-    """Of the kept clusters, whose answers Ceph gave, and of examples/july each is computed."""
-    for name in (*(CLUSTERS / it for it in KEPT), TOP / "examples" / "july"):
-        equals(name, said(folder, (name / "crush.json").read_bytes()), (["yes"], 0, ""))
+    """Of the kept clusters, whose answers Ceph gave, of examples/july and of real clusters, whose
+    groups lay as computed, each is computed."""
+    own = [*(CLUSTERS / it for it in KEPT), TOP / "examples" / "july"]
+    dumps = [it / "crush.json" for it in own] + [*REAL.glob("*/crush.json")]
+    wants(len(dumps) > len(own), "there is no dump of a real cluster")
+    for it in dumps:
+        equals(it, said(folder, it.read_bytes()), (["yes"], 0, ""))
 
 
 def changed(change, wanted):

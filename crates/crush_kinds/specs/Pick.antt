@@ -22,8 +22,8 @@ pick b x r = pick_as b.kind b x r
 abbrev pub perm_of : BucketView → PermView
 perm_of b = record { id = b.id; size = length b.items }
 
--- what a scratch remembers after a pick of a bucket of this kind: only
--- uniform buckets ask it anything
+-- what a scratch remembers after a pick of a bucket of this kind: only uniform buckets ask it
+-- anything
 abbrev pub after_pick_as : Kind → BucketView → Remembered → ℕ → ℕ → Remembered
 after_pick_as Uniform b m x r = asked m x (r % length b.items)
 after_pick_as List b m x r = m

@@ -193,6 +193,36 @@ impl AnyBucket {
     }
 }
 
+/// Picks as a bucket that is known to be uniform does, without a look at its kind.
+#[inline]
+#[tactic(auto, unfolding(crate::specs::Kinds::uniform_pick, crate::specs::Pick::pick))]
+pub(crate) fn uniform_item(bucket: &AnyBucket, perm: &mut Perm, x: u32, r: u32) -> ItemId
+    requires kind { bucket.now.kind ≡ Kind.Uniform }
+    requires some { 0 < length bucket.now.items }
+    requires its { perm.old.of ≡ perm_of bucket.now }
+    ensures picked { result ≡ pick bucket.now x r }
+    ensures item { IsItemOf bucket.now.items result }
+    ensures same { perm.new.of ≡ perm.old.of }
+    ensures asked { perm.new ≡ after_pick bucket.now perm.old x r }
+{
+    bucket.item(perm.member(x, asked_place(r, bucket.items.len())))
+}
+
+/// Picks as a bucket that is known to be a tree does.
+#[inline]
+#[tactic(auto, unfolding(crate::specs::Pick::pick))]
+pub(crate) fn tree_item(bucket: &AnyBucket, x: u32, r: u32) -> ItemId
+    requires kind { bucket.now.kind ≡ Kind.Tree }
+    requires some { 0 < length bucket.now.items }
+    ensures picked { result ≡ pick bucket.now x r }
+    ensures item { IsItemOf bucket.now.items result }
+{
+    match &bucket.draw {
+        Draw::Tree(tree) => TreeRef::new(bucket, tree).item(x, r),
+        _ => unreachable!(),
+    }
+}
+
 /// Makes what a bucket of the kind `kind` stores beside its items.
 fn draw_of(alloc: Global, kind: Kind, items: &[(ItemId, Weight)]) -> Result<Draw, AllocError>
     requires few { length items.now < 2 ^ 16 }

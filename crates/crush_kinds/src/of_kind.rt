@@ -72,7 +72,7 @@ impl Picker for UniformBucket {
     ghost bucket = { λ b. b };
 
     fn pick(&self, perm: &mut Perm, x: u32, r: u32) -> ItemId {
-        self.bucket.pick(perm, x, r)
+        crate::any::uniform_item(&self.bucket, perm, x, r)
     }
 
     fn pick_eight(&self, perm: &mut Perm, xs: &[u32; 8], r: u32) -> [ItemId; 8] {
@@ -208,7 +208,7 @@ impl Picker for TreeBucket {
     ghost bucket = { λ b. b };
 
     fn pick(&self, perm: &mut Perm, x: u32, r: u32) -> ItemId {
-        self.bucket.pick(perm, x, r)
+        crate::any::tree_item(&self.bucket, x, r)
     }
 
     fn pick_eight(&self, perm: &mut Perm, xs: &[u32; 8], r: u32) -> [ItemId; 8] {

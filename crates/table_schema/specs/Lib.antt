@@ -2,3 +2,4 @@ pub mod Layout
 pub mod Holds
 pub mod Values
 pub mod Ready
+pub mod Refused

@@ -222,14 +222,15 @@ pub fn set_up<S: Alter>(conn: &mut Connection<S>) -> Result<(), StoreFault>
     }
 }
 
-/// Prepares the statement that `refusal` prepares, so that it takes no memory then.
+/// Prepares the statement that `refusal` prepares, so that it takes no memory then. The plans that
+/// a connection keeps are forgotten where the schema changes, so the tables have to be there.
 pub fn get_ready<S: Alter>(conn: &mut Connection<S>) -> Result<(), StoreFault>
     ensures ok { HasCleanDisk (state S.Store conn.new) → OnOk result (IsUnchanged (state S.Store conn.old) (state S.Store conn.new)) }
     ensures err { IfErr result (λ fault. (fault ≡ StoreFault.NoMemory) ⊎ (fault ≡ StoreFault.Failed)) }
     ensures survives { Survives (state S.Store conn.old) (state S.Store conn.new) (λ _. ⊥) }
     ensures ended { conn.old.in_transaction ≡ false → conn.new.in_transaction ≡ false }
 {
-    match conn.prepare("SELECT 1") {
+    match conn.prepare("") {
         Ok(_) => Ok(()),
         Err(error) => match fault_of(error) {
             StoreFault::NoMemory => Err(StoreFault::NoMemory),

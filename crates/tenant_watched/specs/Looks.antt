@@ -10,6 +10,6 @@ next_look (look ∷ later) = look
 abbrev pub Looks : Bool → Option (List Bool) → Option (List Bool) → Type 0
 Looks is_there old new = IfSome old (λ looks. (is_there ≡ next_look looks) × (new ≡ Some (drop 1 looks)))
 
--- the next two looks find the files
-abbrev pub FindsTwice : List Bool → Type 0
-FindsTwice looks = (next_look looks ≡ true) × (next_look (drop 1 looks) ≡ true)
+-- the next look finds the files
+abbrev pub FindsFiles : Option (List Bool) → Type 0
+FindsFiles looks = IfSome looks (λ known. next_look known ≡ true)

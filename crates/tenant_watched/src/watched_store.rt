@@ -4,7 +4,7 @@ ghost use Rattle.std.specs.Prelude.{◌≡◌, ◌≢◌, ◌⊎◌, ◌↔◌, 
 ghost use Rattle.tenant_state.specs.State.{CanMake, TenantState, fresh, after};
 ghost use Rattle.tenant_core.specs.States.{LeavesAsItWasOr};
 ghost use Rattle.tenant_core.specs.StoreReply.{is_failed};
-ghost use Rattle.tenant_watched.specs.Looks.{FindsTwice, next_look};
+ghost use Rattle.tenant_watched.specs.Looks.{FindsFiles, next_look};
 
 use crate::watch::Watch;
 use std::marker::Model;
@@ -55,7 +55,8 @@ impl<T: TenantStore, W: Watch> WatchedStore<T, W> {
     fn misses_before(&mut self) -> bool
         ensures below { self.new.0.0 ≡ self.old.0.0 }
         ensures missed { self.new.1 ≡ (self.old.1 || result) }
-        ensures looks { Looks (not result) (W.looks self.old.0.1) (W.looks self.new.0.1) }
+        ensures looks { Looks (not result) (W.looks_before self.old.0.1) (W.looks_before self.new.0.1) }
+        ensures other { W.looks_after self.new.0.1 ≡ W.looks_after self.old.0.1 }
     {
         let is_whole = self.watch.is_whole();
         self.has_missed = self.has_missed || !is_whole;
@@ -68,7 +69,7 @@ impl<T: TenantStore, W: Watch> WatchedStore<T, W> {
         ensures below { self.new.0.0 ≡ self.old.0.0 }
         ensures missed { self.new.1 ≡ (self.old.1 || result) }
         ensures made { result ≡ true → is_made ≡ true }
-        ensures looks { is_made ≡ true → Looks (not result) (W.looks self.old.0.1) (W.looks self.new.0.1) }
+        ensures looks { is_made ≡ true → Looks (not result) (W.looks_after self.old.0.1) (W.looks_after self.new.0.1) }
     {
         let is_there = self.watch.is_there();
         let is_missed = is_made && !is_there;
@@ -133,8 +134,8 @@ impl<T: TenantStore, W: Watch> TenantStore for WatchedStore<T, W> {
         ensures latch { (T.latched self.new.0.0 || self.new.1) ≡ is_failed result }
         ensures crash { T.is_honest self.new.0.0 → (T.latched self.new.0.0 || self.new.1) ≡ true → LeavesAsItWasOr name.now (Some fresh) (T.has_state self.old.0.0) (T.may_leave self.new.0.0) }
         ensures honest { T.is_honest self.new.0.0 → T.is_honest self.old.0.0 }
-        ensures looked { OnOk result (IfSome (W.looks self.old.0.1) FindsTwice) }
-        ensures missed { IfSome (W.looks self.old.0.1) (λ looks. next_look looks ≡ false → (self.new.0.0 ≡ self.old.0.0) × (result ≡ Err StoreFault.Failed)) }
+        ensures looked { OnOk result (FindsFiles (W.looks_before self.old.0.1) × FindsFiles (W.looks_after self.old.0.1)) }
+        ensures missed { IfSome (W.looks_before self.old.0.1) (λ looks. next_look looks ≡ false → (self.new.0.0 ≡ self.old.0.0) × (result ≡ Err StoreFault.Failed)) }
     {
         if self.misses_before() {
             return Err(StoreFault::Failed);
@@ -157,8 +158,8 @@ impl<T: TenantStore, W: Watch> TenantStore for WatchedStore<T, W> {
         ensures crash { T.is_honest self.new.0.0 → (T.latched self.new.0.0 || self.new.1) ≡ true → (s : TenantState) → T.has_state self.old.0.0 name.now (Some s)
             → LeavesAsItWasOr name.now (Some (after change.now s)) (T.has_state self.old.0.0) (T.may_leave self.new.0.0) }
         ensures honest { T.is_honest self.new.0.0 → T.is_honest self.old.0.0 }
-        ensures looked { OnOk result (IfSome (W.looks self.old.0.1) FindsTwice) }
-        ensures missed { IfSome (W.looks self.old.0.1) (λ looks. next_look looks ≡ false → (self.new.0.0 ≡ self.old.0.0) × (result ≡ Err StoreFault.Failed)) }
+        ensures looked { OnOk result (FindsFiles (W.looks_before self.old.0.1) × FindsFiles (W.looks_after self.old.0.1)) }
+        ensures missed { IfSome (W.looks_before self.old.0.1) (λ looks. next_look looks ≡ false → (self.new.0.0 ≡ self.old.0.0) × (result ≡ Err StoreFault.Failed)) }
     {
         if self.misses_before() {
             return Err(StoreFault::Failed);
@@ -180,8 +181,8 @@ impl<T: TenantStore, W: Watch> TenantStore for WatchedStore<T, W> {
         ensures latch { (T.latched self.new.0.0 || self.new.1) ≡ is_failed result }
         ensures crash { T.is_honest self.new.0.0 → (T.latched self.new.0.0 || self.new.1) ≡ true → LeavesAsItWasOr name.now None (T.has_state self.old.0.0) (T.may_leave self.new.0.0) }
         ensures honest { T.is_honest self.new.0.0 → T.is_honest self.old.0.0 }
-        ensures looked { OnOk result (IfSome (W.looks self.old.0.1) FindsTwice) }
-        ensures missed { IfSome (W.looks self.old.0.1) (λ looks. next_look looks ≡ false → (self.new.0.0 ≡ self.old.0.0) × (result ≡ Err StoreFault.Failed)) }
+        ensures looked { OnOk result (FindsFiles (W.looks_before self.old.0.1) × FindsFiles (W.looks_after self.old.0.1)) }
+        ensures missed { IfSome (W.looks_before self.old.0.1) (λ looks. next_look looks ≡ false → (self.new.0.0 ≡ self.old.0.0) × (result ≡ Err StoreFault.Failed)) }
     {
         if self.misses_before() {
             return Err(StoreFault::Failed);
