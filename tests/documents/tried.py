@@ -10,6 +10,7 @@ usage: tests/documents/tried.py        takes a minute on four processors
   unproved.
 - A second `make try` builds nothing. A changed source would have it built again, a changed proof
   not.
+- Where `./crushcalc` is there too, crushplan asks that one.
 
 The last line is 'N passed, M failed'.
 """
@@ -100,6 +101,16 @@ def rebuilds(folder):
     return None
 
 
+def goes_first(folder):
+    """Why crushplan doesn't ask ./crushcalc where that is there too, or None."""
+    built = folder / "crushcalc"
+    built.write_text("#!/bin/sh\necho crushcalc 9.8.7\n")
+    built.chmod(0o755)
+    said = ran(["tools/crushplan", "--version"], folder)[1]
+    built.unlink()
+    return None if "crushcalc 9.8.7 (" in said and "unproved" not in said else f"it says {said[:300]!r}"
+
+
 def checks(folder):
     if not copied(folder):
         yield "a copy of the repository's files", "git lists none"
@@ -121,6 +132,7 @@ def checks(folder):
     after = (folder / PROGRAM).stat()
     is_same = status == 0 and BUILDS not in told and before.st_ino == after.st_ino and before.st_mtime == after.st_mtime
     yield "a second make try", played(folder, told) if is_same else f"it ends with {status}: {told[:400]!r}"
+    yield "a program that 'make' built", goes_first(folder)
     yield "changes of sources", rebuilds(folder)
 
 
