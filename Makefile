@@ -47,8 +47,9 @@ help:
 ## make build     proves the crates of the program and builds it as ./crushcalc, optimised (the
 ##                first time: an hour or more); with CPU=x86-64-v3 for processors since about 2013
 ##                (AVX2): quicker reports, and on an older one it ends with status 127
-## make try       plays examples/first.script, or SCRIPT=FILE, with no proof, in a minute: each
-##                request with its reply
+## make try       builds build/try/crushcalc with no proof, in a minute or two, and plays
+##                examples/first.script, or SCRIPT=FILE, by it: each request with its reply.
+##                tools/crushplan asks it where there is no ./crushcalc
 ## make cases     plays the scripts of tests/program/cases, or those with CASES=WORD in their names, with no
 ##                proof, in a minute, and compares their replies
 ## make run       builds, and serves examples/first.script or SCRIPT=FILE: each request with its reply
@@ -141,11 +142,13 @@ build/crush_bench: $(SOURCES) crates.txt HANDLES build/cpu | tools
 # a script's lines, each with its reply; an empty line has none
 SHOW = awk '$$0 != "" && $$0 != "\r" { print "> " $$0; getline reply <"build/replies"; print reply }' '$(SCRIPT)'
 
+# built again where its sources changed, else there at once
 try: tools
 	@mkdir -p build
 	@[ -r '$(SCRIPT)' ] || { echo "There is no file '$(SCRIPT)' to play." >&2; exit 1; }
-	@echo 'Playing $(SCRIPT) with no proof: a minute. Nothing is proved by this; make run proves the program and builds it.'
-	@RT='$(RT)' python3 tools/played <'$(SCRIPT)' >build/replies 2>build/try.log || { tail -n 30 build/try.log; exit 1; }
+	@RT='$(RT)' python3 tools/played --keep build/try/crushcalc
+	@echo 'Playing $(SCRIPT) by build/try/crushcalc. It is unproved; make run proves the program and builds it.'
+	@build/try/crushcalc script <'$(SCRIPT)' >build/replies
 	@$(SHOW)
 
 # rt try takes a folder of inputs, each beside what has to be written

@@ -192,7 +192,7 @@ def found_program(given, beside):
     path = next((it for it in map(lambda folder: os.path.join(folder, "crushcalc"), os.get_exec_path()) if os.path.isfile(it) and os.access(it, os.X_OK)), None)
     if path:
         return pathlib.Path(path)
-    raise Fault("crushcalc isn't there: neither beside crushplan nor on PATH. Build it by 'make', install it by 'make install', or name it by --program FILE, or a server by --service URL.")
+    raise Fault("crushcalc isn't there: neither beside crushplan nor on PATH. Build it by 'make', or unproved by 'make try', install it by 'make install', or name it by --program FILE, or a server by --service URL.")
 
 
 def side_by_side(client, works):
