@@ -1,9 +1,8 @@
 """Parts that several commands write: the summary, tables of pools, devices and groups."""
-import fractions
 
 from .faults import counted, some
 from .output import Table, devices_text, shown, sized
-from .placing import Note
+
 from .shares import hundredths, percent, rounded
 from .summary import bytes_after, looks_at_room, whole
 
