@@ -1,6 +1,7 @@
 """README's line for the shell, which says of `ceph osd crush dump` alone whether the cluster can be
 computed: run as it stands there, with a program in the place of ceph. What it says is written here,
 and whether it says yes is compared with 'crushplan check'."""
+import copy
 import json
 import os
 import pathlib
@@ -101,7 +102,7 @@ def kept(_, folder):
 def changed(change, wanted):
     def case(runner, folder):
         # Ceph places by weight sets in straw2 buckets alone
-        crush = crush_dump(alg="straw2", root="straw2")
+        crush = copy.deepcopy(crush_dump(alg="straw2", root="straw2"))  # other cases share its steps
         change(crush)
         equals("the line", said(folder, json.dumps(crush).encode()), (wanted, 0, ""))
         made = cluster(folder / "made")

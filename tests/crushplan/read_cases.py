@@ -32,13 +32,13 @@ def canonical(runner, texts):
 
 
 def texts(runner, folder):
-    """A text that is read and written again is the same map: 143 texts of all kinds."""
+    """A text that is read and written again is the same map: 156 texts of all kinds."""
     given, written = [], []
     for path in sorted(MAPS.glob("*.txt")):
         map_ = read_text(path.read_text(), path.name)
         given.append(path.read_text())
         written.append(Text(map_, list(map_.buckets), sorted(map_.rules)).text())
-    equals("how many maps", len(given), 143)
+    equals("how many maps", len(given), 156)
     for path, one, other in zip(sorted(MAPS.glob("*.txt")), canonical(runner, given), canonical(runner, written)):
         # the order of buckets needn't be the same
         equals(path.name, parts(other), parts(one))
