@@ -287,6 +287,8 @@ class Names:
         self.impls, self.foreign, self.macros = {}, [], {}
         self.unknown, self.outside, self.named_memo, self.walked, self.hashed = {}, {}, {}, {}, {}
         self.everything, self.walks, self.folders = {}, {}, {}
+        # the texts of macros, and those in whose text a name is looked up
+        self.expanded, self.expanding = {}, set()
 
     # ---- items
 
@@ -489,6 +491,13 @@ class Names:
         """The macros of this name in the crate and below, which go by no path."""
         return {number for it in (crate, *below(self.crates, crate)) for number in self.macros.get((it, name), ())}
 
+    def expand(self, number, module, ghosts, made):
+        """Adds what the names of a macro's text mean where it is called."""
+        if number in self.expanded and number not in self.expanding:
+            self.expanding.add(number)
+            put_tokens(self, self.expanded[number], module, ghosts, made)
+            self.expanding.remove(number)
+
     def walk(self, crate, module, path, seen=frozenset()):
         """What a path of code means: (items, modules, outside, words left)."""
         if seen:
@@ -650,6 +659,7 @@ class CodeReader:
                 module.items.setdefault(name, []).append(item.number)
                 if kind.startswith("macro_rules"):
                     self.names.macros.setdefault((self.crate, name), []).append(item.number)
+                    self.names.expanded[item.number] = source.code[head.end() : stop]
 
     def plain(self, kind, name, source, module, ghosts, begin, stop):
         return self.names.new(kind, name, self.crate, lambda: self.read_code(source, module, ghosts, [(begin, stop)]))
@@ -780,6 +790,8 @@ def put_tokens(names, code, module, ghosts, made):
         if not items and not outside and len(path) == 1 and (seen := ghosts.meaning(word)):
             items, outside = seen[0], seen[1]
             left = []
+        for it in items if words[end : end + 1] == ["!"] else ():
+            names.expand(it, module, ghosts, made)
         if items or outside:
             made.refer(items, outside)
             for it in left:
