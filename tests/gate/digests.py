@@ -2,20 +2,27 @@
 
 That is the function that the edit changes, before and after, with its proofs, and all that these
 name, and what that names, and so on, in its crate and in those below: heads with their clauses,
-types with their invariants and the impls of traits for them, constants, definitions, and what a
-shut lemma says. Nothing else is in the prover's sight: a tactic reads the facts at its goal, each
-of a call, a type, a test or a clause, and the list that it is given; there is no set of lemmas that
-all goals see. Rust's names alone don't say which function `x.f()` calls: each `f` of a type, or
-trait, in sight counts. So where something stands, how a file comes to its names, other functions'
-bodies, comments, and code's layout don't count, and no move or merge loses a record.
+types with their invariants and the impls of traits for them, constants, definitions, lemmas. No
+other item of a crate is in the prover's sight: a tactic reads the facts at its goal, each of a
+call, a type, a test or a clause, and the list that it is given, and no set of lemmas is open to all
+goals. (What a proof of `rt check` imports bears this out.) A shut lemma counts by what it says,
+which is all that others see of it.
+
+Where a text doesn't tell which item it means, each that it may mean counts: of `x.f()` each `f` of
+a type in sight, of a macro what its names mean where it stands and where it is called. So where an
+item stands, how a file comes to its names, other functions' bodies, comments and the layout of code
+don't count. A file may move, a prelude come in between and two crates become one.
 
 An edit that doesn't change the body of one function rests on its whole crate in the same way.
 """
 import re
 
+from definitions import OWN
 from edits import Unfit
-from names import OWN, Meaning, Names, put_code, sha
+from items import Meaning, sha
+from names import Names
 from prover import below, crates_of
+from rattle import put_code
 from sources import TEST_MODULE, source_of
 
 VISIBLE = re.compile(r"\bpub\s*(?:\([^)]*\)\s*)?(?=(?:unsafe\s+|async\s+|const\s+|extern\s+)*fn\b)")
@@ -101,7 +108,8 @@ class Digests:
         names = self.names
         if crate not in self.folders:
             files = [path for of, path in names.files if of == crate and path[0] == "proofs" and path[-1] in OWN]
-            known = {path for (of, _, _), it in names.functions.items() if of == crate for path in paths_of(it.place, it.name)}
+            own = [it for (of, _, _), it in names.functions.items() if of == crate]
+            known = {path for it in own for path in paths_of(it.place, it.name)}
             self.folders[crate] = files, known
         files, known = self.folders[crate]
         mine = [it for it in files if it[:-1] in paths_of(place, name)]
