@@ -58,7 +58,8 @@ class Item:
 
 class Place:
     """Where a function stands: its module with the names in sight in clauses, where its item begins
-    in the code, the impl or the trait around it, and what its folder of proofs may be named after."""
+    in the code, the impl or the trait around it, and what its folder of proofs may be named
+    after."""
 
     def __init__(self, scope, begin, frame, owners):
         self.scope, self.begin, self.frame, self.owners = scope, begin, frame, owners
