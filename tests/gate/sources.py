@@ -18,6 +18,11 @@ CLAUSE = re.compile(r"\b(requires|ensures|ghost)\b[^{}]*$")
 TEST_MODULE = re.compile(r"#\s*\[\s*cfg\s*\(\s*test\s*\)\s*\]\s*(?:pub\s*(?:\([^)]*\)\s*)?)?mod\s+(\w+)\s*;")
 
 
+def tokens(code):
+    """A source's tokens, one space apart; a comma that only the layout asks for is left out."""
+    return re.sub(r" , (?=[)\]}>])", " ", " ".join(TOKEN.findall(code)))
+
+
 def comment_end(text, at):
     """Where the comment that begins there ends; block comments nest."""
     if text.startswith("//", at):
