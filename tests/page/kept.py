@@ -37,7 +37,7 @@ def sized(number):
 
 def part(used):
     """A part of 1 in percent, as it is shown."""
-    return "–" if used is None else f"{(used * 10000 + 5) // 10 / 10:.1f}%"
+    return "–" if used is None else f"{(round(used * 10000) + 5) // 10 / 10:.1f}%"
 
 
 def in_bytes(row):
@@ -124,9 +124,12 @@ def same_change(page, what, said):
     """The figures, the pools, the devices and hosts, and the groups of an answer."""
     row = lambda it: [counted(it["copies_before"]), counted(it["copies_after"]), signed(it["copies_after"] - it["copies_before"]), percent(it["percent_after"], it["copies_after"]), *([sized(it["bytes_after"])] if it["bytes_after"] is not None else [])]
     here = {name: [*own[:3], *own[4:6]] for name, own in shown_by(page, "device", "usages").items()}
-    figures = {"short": counted(said["short"]["groups"]), "moved": counted(said["moved"]), "anew": counted(said["copies"]), "fullest": percent(said["fullest"]["percent_after"], 1)}
+    figures = {"short": counted(said["short"]["groups"]), "moved": counted(said["moved"]), "anew": counted(said["copies"])}
+    fullest = said["fullest"] or {"used_after": None}
+    if said["fullest"]:
+        figures["fullest"] = percent(fullest["percent_after"], 1)
     found = page.figures()
-    room, used = found.pop("room", None), said["fullest"]["used_after"]
+    room, used = found.pop("room", None), fullest["used_after"]
     pools = [[cell.text for cell in it.find_elements("css selector", "th, td")] for it in page.browser.all("#by-pool tbody tr")]
     anew = page.browser.text("[data-figure='anew'] dt")
     lines = [it.split(",") for it in page.saved("#usages-csv").splitlines()][1:]

@@ -170,6 +170,10 @@ class Page:
 
 
 def unlike(found, wanted, what=""):
+    """Why what is found isn't what is wanted, or None; of dicts only what differs is shown."""
+    if isinstance(found, dict) and isinstance(wanted, dict):
+        keys = [it for it in {**found, **wanted} if it not in found or it not in wanted or found[it] != wanted[it]]
+        found, wanted = ({it: of[it] for it in keys if it in of} for of in (found, wanted))
     return None if found == wanted else f"{what} {str(found)[:300]}, not {str(wanted)[:300]}".strip()
 
 
