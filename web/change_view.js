@@ -174,8 +174,8 @@ export function beside(all, more = []) {
         : null;
 }
 
-// One line for each pool, where there are several. `more` are further columns: their heads, and what
-// they say of a part of the answer.
+// One line for each pool, where there are several. `more` are further columns: their heads, and
+// what they say of a part of the answer.
 export function poolLines(found, more = []) {
     if (found.length < 2) return null;
     const head = [

@@ -61,8 +61,8 @@ export function crushIn(files, there) {
 }
 
 // The map of the files: its texts for the service, the first one alone where a text can't be read
-// here, and the map as it is read (`dump`). `pools` are those that it is for, where no osd.json says
-// them: of those that can't be computed `left` says why.
+// here, and the map as it is read (`dump`). `pools` are those that it is for, where no osd.json
+// says them: of those that can't be computed `left` says why.
 export async function mapIn(files, osd, there, pools = []) {
     const dump = crushIn(files, there), own = osd?.pools ?? pools;
     if (dump) return written(files.crush.name, dump, osd, own);

@@ -6,8 +6,8 @@
 // takes (`pairs`); primary affinities by device (`affinity`); what pools take and devices hold in
 // bytes (`bytes`, `rooms`, `ratios`); flags that keep devices in (`noout`, by devices, and
 // `flags`); pools in stretch mode (`stretched`), that are being split (`splits`), and groups with a
-// temporary list (`moving`); how groups lie by the cluster's own word (`lying`, `doubt`); whether the
-// newest map has weights with all their decimals (`exact`). A map may have several `texts`, of
+// temporary list (`moving`); how groups lie by the cluster's own word (`lying`, `doubt`); whether
+// the newest map has weights with all their decimals (`exact`). A map may have several `texts`, of
 // which the first ones (`shown`) show it; `sides` says of pools which one they have, if not the
 // first.
 

@@ -74,7 +74,8 @@ def today_clusters():
     map_ = tree_of(TodayMap("affinities"), ["straw2"] * 3, racks=3, hosts=3, devices=3, weight=uneven(drawn))
     affinities = {it: drawn.choice((0, 1, ONE // 2, ONE - 1)) for it in drawn.sample(range(map_.devices), 12)}
     yield Cluster("affinities", map_, [*pools(), of_rule(6, "parts-of-hdd", 4, 32, min_size=3)], upmaps=20, affinities=affinities)
-    # Ceph finds no rule for a pool whose kind isn't its rule's, nor for one of another size than it may have
+    # Ceph finds no rule for a pool whose kind isn't its rule's, nor for one of another size than it
+    # may have
     map_ = tree_of(TodayMap("no-rule"), ["straw2"] * 3, racks=3, hosts=3, devices=3, weight=uneven(drawn))
     yield Cluster("no-rule", map_, [*pools(), pool(5, NUMBER["hosts"], 3, 32, kind=ERASURE), pool(6, NUMBER["parts-of-hdd"], 4, 16, kind=REPLICATED), of_rule(7, "hosts", 11, 8)], ruleless=(5, 6, 7))
     yield Cluster("straw", tree_of(TodayMap("straw"), ["straw"] * 3, racks=3, hosts=3, devices=3, weight=uneven(drawn)), pools(), ruleless=(1, 2, 3, 4))

@@ -34,8 +34,8 @@ def real(folder, name, **other):
 
 
 def is_unknown(runner, folder, what, every=False):
-    """Wants the answers on dumps to be unknown, each with the status 2: those of check and drain, or
-    of every command."""
+    """Wants the answers on dumps to be unknown, each with the status 2: those of check and drain,
+    or of every command."""
     device = json.loads((folder / "osd.json").read_text())["osds"][0]["osd"]
     said = runner.said("check", folder, status=2)
     wants("lie as computed; " in said["answer"] and said["lying"]["others"], f"{what}: check says {said['answer']}")
@@ -49,9 +49,9 @@ def is_unknown(runner, folder, what, every=False):
 
 
 def words_of_a_cluster(runner, folder):
-    """Dumps of real clusters of straw2, classes and a weight set: all groups lie as computed. With a
-    copy of the map of list buckets, with one device's other weight, without the weight set, or with
-    the dumps of an earlier time, every answer is unknown."""
+    """Dumps of real clusters of straw2, classes and a weight set: all groups lie as computed. With
+    a copy of the map of list buckets, with one device's other weight, without the weight set, or
+    with the dumps of an earlier time, every answer is unknown."""
     for name in ("straw2-3-upmap", "classes-7-remove", "weights-10-drain"):
         real(folder, name)
         groups = sum(it["pg_num"] for it in json.loads((folder / "osd.json").read_text())["pools"])

@@ -100,30 +100,38 @@ def logic(toolchain):
     return toolchain.partition(" logic ")[2]
 
 
+def read(path, toolchain):
+    """The rows of a record, and the seconds or None; none of another logic."""
+    text = path.read_text() if path.is_file() else ""
+    by, seconds = TOOLCHAIN.search(text), SECONDS.search(text)
+    if not by or logic(by[1]) != logic(toolchain):
+        return {}, None
+    return {name: (where, digest) for name, where, digest in ROW.findall(text)}, tuple(map(int, seconds.groups())) if seconds else None
+
+
+def recorded(kept, toolchain):
+    """Where edits were refused on this machine, by their digests: these go by what names mean, so
+    that an edit which moved to another crate, or has another name, keeps its own."""
+    return {row[1]: row for path in sorted(kept.glob("*.md")) for row in read(path, toolchain)[0].values()}
+
+
 class Record:
     """What refused the edits of a crate: where, and the digest, by the edits' names. What was
     recorded on this machine, as by a run in another checkout, is there too."""
 
-    def __init__(self, crate, toolchain, top=TOP):
-        self.path, self.toolchain, self.rows, self.seconds = top / "crates" / crate / "must-fail" / "REFUSED.md", toolchain, {}, None
-        self.kept = KEPT / f"{crate}.md" if top == TOP else None
-        self.others, self.is_taken = self.read(self.kept) if self.kept else {}, False
-        self.rows = self.read(self.path)
-
-    def read(self, path):
-        """The rows of a record, and the seconds where it has them; none of another logic."""
-        text = path.read_text() if path.is_file() else ""
-        by, seconds = TOOLCHAIN.search(text), SECONDS.search(text)
-        if not by or logic(by[1]) != logic(self.toolchain):
-            return {}
-        self.seconds = tuple(map(int, seconds.groups())) if seconds else self.seconds
-        return {name: (where, digest) for name, where, digest in ROW.findall(text)}
+    def __init__(self, crate, toolchain, top=TOP, kept=None):
+        self.path, self.toolchain = top / "crates" / crate / "must-fail" / "REFUSED.md", toolchain
+        self.kept, self.is_taken = kept or (KEPT if top == TOP else None), False
+        self.file = self.kept / f"{crate}.md" if self.kept else None
+        self.others = recorded(self.kept, toolchain) if self.kept else {}
+        self.rows, self.seconds = read(self.path, toolchain)
+        if self.file and not self.seconds:
+            self.seconds = read(self.file, toolchain)[1]
 
     def fits(self, edit, digest):
         """Whether the edit is recorded as refused with this digest."""
-        other = self.others.get(edit.name, (None, None))
-        if digest and other[1] == digest != self.rows.get(edit.name, (None, None))[1]:
-            self.rows[edit.name], self.is_taken = other, True
+        if digest in self.others and digest != self.rows.get(edit.name, (None, None))[1]:
+            self.rows[edit.name], self.is_taken = self.others[digest], True
         return digest is not None and self.rows.get(edit.name, (None, None))[1] == digest
 
     def take(self, edit, where, digest, here):
@@ -145,6 +153,6 @@ class Record:
         rows = [f"| `{name}` | {where} | {digest} |\n" for name, (where, digest) in sorted(self.rows.items()) if name in names]
         text = HEAD.format(self.toolchain, *self.seconds) + "".join(rows)
         self.path.write_text(text)
-        if self.kept:
-            self.kept.parent.mkdir(parents=True, exist_ok=True)
-            self.kept.write_text(text)
+        if self.file:
+            self.kept.mkdir(parents=True, exist_ok=True)
+            self.file.write_text(text)

@@ -155,11 +155,6 @@ def functions_in(folder):
     return sum(len(it.functions) for it in sources), sum(len(TEST.findall(it.code)) for it in sources)
 
 
-def tokens(code):
-    """A source's tokens, one space apart; a comma that only the layout asks for is left out."""
-    return re.sub(r" , (?=[)\]}>])", " ", " ".join(TOKEN.findall(code)))
-
-
 def definitions(text):
     """A file of definitions or proofs without comments and ends of lines. Its layout counts, so
     lines stay."""
@@ -168,6 +163,8 @@ def definitions(text):
 
 
 def without_comment(line):
+    if "--" not in line:
+        return line
     in_string = False
     for at, letter in enumerate(line):
         if letter == '"' and line[at - 1 : at] != "\\":

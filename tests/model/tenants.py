@@ -1,6 +1,6 @@
-"""The definition's replies to requests of tenants on maps of any size, and the rows that they leave:
-the limits of docs/REQUESTS.md, map texts by map_text.py, placements by choosing.py. Bodies have to
-be of their form, but for how many rows and bytes they have."""
+"""The definition's replies to requests of tenants on maps of any size, and the rows that they
+leave: the limits of docs/REQUESTS.md, map texts by map_text.py, placements by choosing.py. Bodies
+have to be of their form, but for how many rows and bytes they have."""
 import collections
 import functools
 import json

@@ -39,8 +39,8 @@ def said_of(page, program, folder, name, words):
 
 @with_folder
 def a_changed_text_has_classes_and_weight_sets(page, folder):
-    """A text as crushtool writes it, with rules that take classes and a weight set for all pools and
-    one for one pool, each with other weights."""
+    """A text as crushtool writes it, with rules that take classes and a weight set for all pools
+    and one for one pool, each with other weights."""
     today, program = Today(), page.program
     sets = {"-1": today.weight_set(""), "2": today.weight_set("ssd")}
     files_of(folder, program, today.crush(sets), today.osd(POOLS, STATES))

@@ -341,8 +341,8 @@ def a_tree_over_the_most_buckets(page, folder):
 
 @with_folder
 def the_folder_of_fetch_is_dropped_as_it_is(page, folder):
-    """A folder's files, as a drop of a folder carries them; the map's text in it is passed over, and
-    so are the planner's own files."""
+    """A folder's files, as a drop of a folder carries them; the map's text in it is passed over,
+    and so are the planner's own files."""
     today, program = Today(), page.program
     files_of(folder, program, today.crush(), today.osd(POOLS[:1], STATES))
     (folder / "map.txt").write_text(today.text())

@@ -1,5 +1,5 @@
-"""Each limit of the design as the number that it is there, by requests at it and past it. Other tests,
-the pages and the sources name limits too; here they are from nowhere else."""
+"""Each limit of the design as the number that it is there, by requests at it and past it. Other
+tests, the pages and the sources name limits too; here they are from nowhere else."""
 from model.maps import tiny, with_devices, with_line
 from model.messages import BAD, EXISTS, NO_DEVICE, NO_RULE, NO_VERSION, START, accepted, created, csv_of, devices_of, excepted, exceptions_of, import_of, imported, item, lines_of, object_of, pool_of, post, refused, removal_of, removed, state, test_of
 

@@ -38,8 +38,8 @@ ANSWERS = {
 
 
 def stable_leaves():
-    """A leaf's first attempt is by how many items there are, or, where it is stable, by none: as the
-    map says, or the rule."""
+    """A leaf's first attempt is by how many items there are, or, where it is stable, by none: as
+    the map says, or the rule."""
     rows, version = list(START), 0
     for (vary_r, stable), answers in ANSWERS.items():
         said = (leaves(vary_r, stable), leaves(vary_r, 1 - stable, f"set_chooseleaf_stable {stable}"),

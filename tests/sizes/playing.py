@@ -23,8 +23,8 @@ def by_script(program, db, lines):
 
 
 def batches(lines):
-    """The lines of each connection: as many as it may have, and one that is refused by its length as
-    the last, since that ends it."""
+    """The lines of each connection: as many as it may have, and one that is refused by its length
+    as the last, since that ends it."""
     batch = []
     for it in lines:
         batch.append(it)
@@ -52,8 +52,8 @@ def by_server(program, db, lines):
 
 
 def over_a_connection(server, lines):
-    """The replies to lines that are sent one behind the other while replies are read; of a body that
-    is too long only the head is sent."""
+    """The replies to lines that are sent one behind the other while replies are read; of a body
+    that is too long only the head is sent."""
     def send():
         try:
             for it in lines:

@@ -44,7 +44,8 @@ def pool_of(tenant, number, *, groups, size=3, rule=0, kind="replicated", places
 
 
 def states_of(tenant, request, rows, by_csv=False):
-    """Changes of states, 1,024 in a request: rows of a device, its reweight, and whether it is up."""
+    """Changes of states, 1,024 in a request: rows of a device, its reweight, and whether it is
+    up."""
     for first in range(0, len(rows), 1_024):
         part = rows[first : first + 1_024]
         if by_csv:
@@ -310,8 +311,8 @@ def tenants():
 
 
 def tenants_of_large_maps():
-    """64 tenants whose maps of 10,000 devices the memory that is kept has no room for, asked one after
-    the other, and again."""
+    """64 tenants whose maps of 10,000 devices the memory that is kept has no room for, asked one
+    after the other, and again."""
     names, texts = [f"t{it}" for it in range(64)], [racks_of(DEVICES, it, racks=10, hosts=50) for it in range(2)]
     start = [[create(it), import_of(it, "m1", texts[place % 2]), pool_of(it, 1, groups=2)] for place,
         it in enumerate(names)]

@@ -4,7 +4,7 @@ from .drawing import of_devices, of_each
 from .faults import Fault, counted, some
 from .names import Chosen, names_in, of_class
 from .output import Answer, Progress, Sized, Table, devices_text, shown, sized
-from .reports import COPY, Stay, groups_rows, groups_table, listed, pools_table, status_of, summary_table, usage_rows, usage_table, verdict, warn_of_flags, warn_of_room
+from .reports import Stay, groups_rows, groups_table, listed, pools_table, status_of, summary_table, usage_rows, usage_table, verdict, warn_of_flags, warn_of_room
 from .shares import hundredths
 from .service import JOBS
 from .stages import Stages, in_turn, states_after
@@ -192,12 +192,12 @@ def fail_each(plan, asked):
     start.lists_now()
     found, levels, progress = [], Levels(plan), Progress(len(units), asked.each + "s")
     try:
+        progress.at(0)
         for part in parts_of(start, units):
-            progress.at(len(found))
             # side by side, each with some of them, and no more at once than fit into memory
             shares = [part[it::JOBS] for it in range(JOBS) if part[it::JOBS]]
-            found += [it for own in plan.side_by_side(*(lambda own=own: each_of(plan, start, levels, own) for own in shares)) for it in own]
-            progress.at(len(found))
+            works = (lambda own=own: each_of(plan, start, levels, own, progress) for own in shares)
+            found += [it for own in plan.side_by_side(*works) for it in own]
     finally:
         progress.end()
     warn_of_room(plan)
@@ -212,10 +212,14 @@ def fail_each(plan, asked):
     return Answer(status, each_sentence(plan, asked.each, statuses, has), fields, blocks, own, drawing)
 
 
-def each_of(plan, start, levels, units):
+def each_of(plan, start, levels, units, progress):
     """Returns what some of the buckets cost, each of which fails alone."""
     placed = in_turn(plan, start.touched, [(stages_of(plan, of), start.wanted(of), start.before) for _, of in units])
-    return [Each(plan, start, levels, *unit, lists) for unit, lists in zip(units, placed)]
+    found = []
+    for unit, lists in zip(units, placed):
+        found.append(Each(plan, start, levels, *unit, lists))
+        progress.one_more()
+    return found
 
 
 def parts_of(start, units):

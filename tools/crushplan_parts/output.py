@@ -2,6 +2,7 @@
 import json
 import os
 import sys
+import threading
 import time
 
 from .waiting import is_shown, waiting
@@ -171,6 +172,7 @@ class Progress:
 
     def __init__(self, whole, what):
         self.whole, self.what, self.start, self.shown = whole, what, time.monotonic(), is_shown() and whole > 1
+        self.done, self.lock = 0, threading.Lock()
         if self.shown:
             waiting.give_way(True)
 
@@ -182,6 +184,12 @@ class Progress:
         filled = 24 * done // self.whole
         sys.stderr.write(f"\r[{'#' * filled}{'.' * (24 - filled)}] {done} of {self.whole} {self.what}{left} \033[K")
         sys.stderr.flush()
+
+    def one_more(self):
+        """One more is done, by whichever thread."""
+        with self.lock:
+            self.done += 1
+            self.at(self.done)
 
     def end(self):
         if self.shown:
