@@ -5,7 +5,7 @@ use Rattle.std.proofs.lemmas.List.Sorted.{IsPermutation-map, length_permutation}
 use Rattle.sqlite_value.specs.declared.value.Value.TheVariants.{Null, Int, Text as Words}
 use Rattle.sqlite_trees.specs.Tree.{Trees}
 use Rattle.table_reads.specs.declared.find.Tenant.{Tenant}
-use Rattle.store_faults.specs.declared.StoreFault.{StoreFault}
+use Rattle.table_reads.specs.declared.fault.ReadFault.{ReadFault}
 use Rattle.sqlite_value.specs.Order.{Row, column}
 use Rattle.sqlite_trees.proofs.ListLemmas.{map-map}
 use Rattle.sqlite_tied.specs.Compute.{everything}
@@ -27,22 +27,23 @@ use Rattle.table_schema.proofs.Queries.{plain_query, equals, staged_is}
 use Rattle.sqlite.specs.Effect.{Database, IsDatabase}
 
 -- what leaves all as it is leaves the connection ready
-pub remains : (old new : State) → IsReady old → IsUnchanged old new → Remains old new
-remains old new ready same = record {
+pub remains : (old new : State) → IsReady old → IsUnchanged old new → new.step_limit ≡ old.step_limit → Remains old new
+remains old new ready same limit = record {
   ready = record {
     is_open = same.0.is_open;
     schema = (ready.schema.0, ap (λ (db : Database). db.schema) same.0.now_is ∙ ready.schema.1);
     tables = subst (λ (db : Database). AreTables db.trees) (sym same.0.now_is) ready.tables;
     sound = subst IsDatabase (sym same.0.now_is) ready.sound;
     settled = same.0.now_is ∙ ready.settled ∙ sym same.0.committed_is;
+    unlimited = limit ∙ ready.unlimited;
   };
   same = same.0.now_is;
 }
 
 -- going back to the last commit does so too, while the connection is open
-pub remains_after : (old mid new : State) → IsReady old → Rests old mid → IsUnchanged mid new → Remains old new
-remains_after old mid new ready (inl same) after = let first = remains old mid ready same in let last = remains mid new first.ready after in record { ready = last.ready; same = last.same ∙ first.same }
-remains_after old mid new ready (inr kept) after =
+pub remains_after : (old mid new : State) → IsReady old → Rests old mid → IsUnchanged mid new → mid.step_limit ≡ old.step_limit → new.step_limit ≡ mid.step_limit → Remains old new
+remains_after old mid new ready (inl same) after limit again = let first = remains old mid ready same limit in let last = remains mid new first.ready after again in record { ready = last.ready; same = last.same ∙ first.same }
+remains_after old mid new ready (inr kept) after limit again =
     let now : mid.now ≡ old.now = kept.now after.0.was_open ∙ sym ready.settled in
     let first : IsReady mid = record {
       is_open = after.0.was_open;
@@ -50,8 +51,9 @@ remains_after old mid new ready (inr kept) after =
       tables = subst (λ (db : Database). AreTables db.trees) (sym now) ready.tables;
       sound = subst IsDatabase (sym now) ready.sound;
       settled = kept.now after.0.was_open ∙ sym (kept.committed after.0.was_open);
+      unlimited = limit ∙ ready.unlimited;
     } in
-    let last = remains mid new first after in
+    let last = remains mid new first after again in
     record { ready = last.ready; same = last.same ∙ now }
 
 -- ---- the number and the epoch of a name
@@ -83,7 +85,7 @@ finds old new name rows ready h =
     subst (λ tree. IsPermutation (map head_of (rows_with 2 (Words name) (old.now.trees tree))) rows) (sym (places layout old.now ready.sound ready.schema.1).tenants) found
 
 -- what the rows say of the name
-pub names : (db : Trees) (name : List ℕ) (rows : List Row) (result : Result (Option Tenant) StoreFault) → IsPermutation (map head_of (tenants_of db name)) rows
+pub names : (db : Trees) (name : List ℕ) (rows : List Row) (result : Result (Option Tenant) ReadFault) → IsPermutation (map head_of (tenants_of db name)) rows
     → IfOk result (λ o. IfSome o (λ t. rows ≡ (Int t.id ∷ Int t.epoch ∷ []) ∷ [])) → IfOk result (λ o. o ≡ None → rows ≡ []) → IfOk result (Names db name)
 names db name rows (Err e) same some none = tt
 names db name rows (Ok None) same some none = none_left (tenants_of db name) (subst (IsPermutation (map head_of (tenants_of db name))) (none refl) same)

@@ -5,3 +5,5 @@ pub mod Rising
 pub mod Listing
 pub mod Paging
 pub mod Placing
+pub mod Failing
+pub mod Safe

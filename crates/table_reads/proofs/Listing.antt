@@ -29,7 +29,7 @@ use Rattle.table_schema.specs.Holds.{tree_of, rows_with, values_of, of_tenant}
 use Rattle.table_schema.specs.Ready.{IsReady}
 use Rattle.table_schema.proofs.Places.{Places, places, read}
 use Rattle.table_reads.specs.Found.{IsRising, AreOrdered, receipts_with, receipt_values, AreReceipt, IsReceiptRow}
-use Rattle.store_faults.specs.declared.StoreFault.{StoreFault}
+use Rattle.table_reads.specs.declared.fault.ReadFault.{ReadFault}
 use Rattle.table_reads.specs.declared.rows.ReceiptRow.{ReceiptRow}
 use Rattle.table_schema.proofs.Queries.{plain_query, equals, staged_is, staged_are}
 
@@ -179,7 +179,7 @@ no_rows : (all rows : List Row) → IsPermutation all rows → rows ≡ [] → a
 no_rows [] rows same none = refl
 no_rows (r ∷ all) rows same none = absurd (omega (arith, length_permutation _ _ same, ap length none))
 
-pub one_receipt : (all rows : List Row) (result : Result (Option ReceiptRow) StoreFault) → IsPermutation all rows → IfOk result (λ o. IfSome o (λ x. rows ≡ receipt_values x ∷ [])) → IfOk result (λ o. o ≡ None → rows ≡ [])
+pub one_receipt : (all rows : List Row) (result : Result (Option ReceiptRow) ReadFault) → IsPermutation all rows → IfOk result (λ o. IfSome o (λ x. rows ≡ receipt_values x ∷ [])) → IfOk result (λ o. o ≡ None → rows ≡ [])
     → IfOk result (AreReceipt all)
 one_receipt all rows (Err e) same some none = tt
 one_receipt all rows (Ok None) same some none = no_rows all rows same (none refl)

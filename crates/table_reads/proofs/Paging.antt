@@ -214,7 +214,7 @@ reads_first id old new rows ready h =
 abbrev pub next_text : List ℕ
 next_text = codes "SELECT request, path, body, status, reply FROM receipts WHERE tenant = ?1 AND request > ?2 ORDER BY request LIMIT 17"
 
-abbrev above_term : Term
+abbrev pub above_term : Term
 above_term = op2 (Compare Gt Binary) (col 1 2) (col 0 1)
 
 pub next_is : (layout : Layout) → (command_of (understood (store_schema layout) next_text) ≡ Select (record { lets = []; body = page_query (receipts_tree layout) (equals 1 0 ∷ above_term ∷ []) }) receipt_names)

@@ -1,6 +1,7 @@
 //! Queries, which leave the rows as they are.
 
-ghost use Rattle.std.specs.Prelude.{◌≡◌, ◌≢◌, ◌⊎◌, false, IfOk, IfErr, Err};
+ghost use Rattle.std.specs.Prelude.{◌≡◌, ◌≢◌, false, IfOk, Err};
+ghost use Rattle.sqlite_disk.specs.Disk.{MoreFaults};
 ghost use Rattle.sqlite.specs.Given.{IsPlain};
 ghost use Rattle.sqlite.specs.Held.{state};
 ghost use Rattle.sqlite.specs.Listing.{understood};
@@ -9,34 +10,34 @@ ghost use Rattle.sqlite.specs.Values.{bound};
 ghost use Rattle.table_schema.specs.Layout.{store_schema};
 ghost use Rattle.table_schema.specs.declared.schema.Layout.{Layout};
 ghost use Rattle.table_schema.specs.Ready.{IsReady, Remains};
+ghost use Rattle.table_reads.specs.Asked.{IsSafe};
 
+use crate::fault::{ReadFault, read_fault};
 use sqlite::types::ValueRef;
 use sqlite::{Alter, Connection, Row};
-use store_faults::StoreFault;
-use table_schema::refuse::refusal;
+use table_schema::refuse::look_after;
 
 /// Runs the query `sql` with the values `params`, and returns the rows that it answers.
 ///
-/// `Err(StoreFault::NoMemory)`: nothing is changed.
+/// `Err(ReadFault::NoMemory)`: nothing is changed.
 pub fn ask<S: Alter>(
     conn: &mut Connection<S>,
     sql: &str,
     params: &[ValueRef<'_>],
-) -> Result<Vec<Row>, StoreFault>
+) -> Result<Vec<Row>, ReadFault>
     requires autocommit { conn.old.in_transaction ≡ false }
     requires ready { HasCleanDisk (state S.Store conn.old) → IsReady (state S.Store conn.old) }
     requires plain { (layout : Layout) → IsPlain (understood (store_schema layout) sql.now) }
+    requires safe { (layout : Layout) → IsSafe (store_schema layout) sql.now (bound params.now) }
     ensures shown { HasCleanDisk (state S.Store conn.new) → IfOk result (λ rows. Shown sql.now (bound params.now) (state S.Store conn.old) (state S.Store conn.new) rows.items) }
-    ensures remains { HasCleanDisk (state S.Store conn.new) → result ≢ Err StoreFault.Failed → Remains (state S.Store conn.old) (state S.Store conn.new) }
-    ensures faults { IfErr result (λ fault. (fault ≡ StoreFault.NoMemory) ⊎ (fault ≡ StoreFault.Failed)) }
+    ensures remains { HasCleanDisk (state S.Store conn.new) → result ≢ Err ReadFault.Unseen → result ≢ Err ReadFault.Failed → Remains (state S.Store conn.old) (state S.Store conn.new) }
+    ensures failed { HasCleanDisk (state S.Store conn.new) → result ≡ Err ReadFault.Failed → MoreFaults (state S.Store conn.old).faults (state S.Store conn.new).faults }
+    ensures rows { result ≢ Err ReadFault.Damaged }
     ensures survives { Survives (state S.Store conn.old) (state S.Store conn.new) (λ _. ⊥) }
     ensures ended { conn.new.in_transaction ≡ false }
 {
     match conn.query_all(sql, params) {
         Ok(rows) => Ok(rows),
-        Err(error) => match refusal(conn, error) {
-            StoreFault::NoMemory => Err(StoreFault::NoMemory),
-            _ => Err(StoreFault::Failed),
-        },
+        Err(error) => Err(read_fault(look_after(conn, error))),
     }
 }

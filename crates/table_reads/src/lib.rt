@@ -3,6 +3,7 @@
 
 mod ask;
 pub mod exceptions;
+pub mod fault;
 pub mod find;
 pub mod lists;
 pub mod pages;

@@ -2,6 +2,7 @@
 
 ghost use Rattle.std.specs.Prelude.{◌≡◌, ◌≢◌, ◌⊎◌, [], ◌∷◌, map, false, IfOk, IfErr, Err, IsPermutation};
 ghost use Rattle.std.specs.List.{AllByRecursion};
+ghost use Rattle.sqlite_disk.specs.Disk.{MoreFaults};
 ghost use Rattle.sqlite.specs.Held.{state};
 ghost use Rattle.sqlite.specs.State.{HasCleanDisk, Survives};
 ghost use Rattle.table_schema.specs.Layout.{maps_table, devices_table, pools_table};
@@ -11,21 +12,22 @@ ghost use Rattle.table_reads.specs.Found.{AreOrdered, Lists, receipts_with, AreR
 ghost use Rattle.table_schema.specs.Ready.{IsReady, Remains};
 
 use crate::ask::ask;
+use crate::fault::ReadFault;
 use crate::read::{list_of, one_of};
 use crate::rows::{PoolRow, ReceiptRow, VersionRow};
 use sqlite::types::ValueRef;
 use sqlite::{Alter, Connection, Row};
 use std::alloc::Global;
-use store_faults::StoreFault;
 use table_schema::values::State;
 
 /// Reads the versions and the texts of the tenant's maps, by version.
-fn version_rows<S: Alter>(conn: &mut Connection<S>, id: i64) -> Result<Vec<Row>, StoreFault>
+fn version_rows<S: Alter>(conn: &mut Connection<S>, id: i64) -> Result<Vec<Row>, ReadFault>
     requires autocommit { conn.old.in_transaction ≡ false }
     requires ready { HasCleanDisk (state S.Store conn.old) → IsReady (state S.Store conn.old) }
     ensures found { HasCleanDisk (state S.Store conn.new) → IfOk result (λ rows. AreOrdered (of_tenant maps_table id (state S.Store conn.old).now.trees) rows.items) }
-    ensures remains { HasCleanDisk (state S.Store conn.new) → result ≢ Err StoreFault.Failed → Remains (state S.Store conn.old) (state S.Store conn.new) }
-    ensures faults { IfErr result (λ fault. (fault ≡ StoreFault.NoMemory) ⊎ (fault ≡ StoreFault.Failed)) }
+    ensures remains { HasCleanDisk (state S.Store conn.new) → result ≢ Err ReadFault.Unseen → result ≢ Err ReadFault.Failed → Remains (state S.Store conn.old) (state S.Store conn.new) }
+    ensures failed { HasCleanDisk (state S.Store conn.new) → result ≡ Err ReadFault.Failed → MoreFaults (state S.Store conn.old).faults (state S.Store conn.new).faults }
+    ensures rows { result ≢ Err ReadFault.Damaged }
     ensures survives { Survives (state S.Store conn.old) (state S.Store conn.new) (λ _. ⊥) }
     ensures ended { conn.new.in_transaction ≡ false }
 {
@@ -38,19 +40,19 @@ fn version_rows<S: Alter>(conn: &mut Connection<S>, id: i64) -> Result<Vec<Row>,
 
 /// Reads the versions of the tenant's map, which rise strictly.
 ///
-/// `Err(StoreFault::Damaged)`: a version occurs twice, or a row is none that this service writes.
-/// `Err(StoreFault::NoMemory)`: nothing is changed.
+/// `Err(ReadFault::Damaged)`: a version occurs twice, or a row is none that this service writes.
+/// `Err(ReadFault::NoMemory)`: nothing is changed.
 pub fn versions_of<S: Alter>(
     alloc: Global,
     conn: &mut Connection<S>,
     id: i64,
-) -> Result<Vec<VersionRow>, StoreFault>
+) -> Result<Vec<VersionRow>, ReadFault>
     requires autocommit { conn.old.in_transaction ≡ false }
     requires ready { HasCleanDisk (state S.Store conn.old) → IsReady (state S.Store conn.old) }
     ensures found { HasCleanDisk (state S.Store conn.new) → IfOk result (λ versions. Lists (of_tenant maps_table id (state S.Store conn.old).now.trees) (map version_values versions.items)) }
-    ensures damaged { HasCleanDisk (state S.Store conn.new) → result ≡ Err StoreFault.Damaged → (list : _) → AllByRecursion IsVersionRow list → ¬ Lists (of_tenant maps_table id (state S.Store conn.old).now.trees) list }
-    ensures full { result ≢ Err StoreFault.Full }
-    ensures remains { HasCleanDisk (state S.Store conn.new) → result ≢ Err StoreFault.Failed → Remains (state S.Store conn.old) (state S.Store conn.new) }
+    ensures damaged { HasCleanDisk (state S.Store conn.new) → result ≡ Err ReadFault.Damaged → (list : _) → AllByRecursion IsVersionRow list → ¬ Lists (of_tenant maps_table id (state S.Store conn.old).now.trees) list }
+    ensures remains { HasCleanDisk (state S.Store conn.new) → result ≢ Err ReadFault.Unseen → result ≢ Err ReadFault.Failed → Remains (state S.Store conn.old) (state S.Store conn.new) }
+    ensures failed { HasCleanDisk (state S.Store conn.new) → result ≡ Err ReadFault.Failed → MoreFaults (state S.Store conn.old).faults (state S.Store conn.new).faults }
     ensures survives { Survives (state S.Store conn.old) (state S.Store conn.new) (λ _. ⊥) }
     ensures ended { conn.new.in_transaction ≡ false }
 {
@@ -59,12 +61,13 @@ pub fn versions_of<S: Alter>(
 }
 
 /// Reads the states of the tenant's devices, by device.
-fn device_rows<S: Alter>(conn: &mut Connection<S>, id: i64) -> Result<Vec<Row>, StoreFault>
+fn device_rows<S: Alter>(conn: &mut Connection<S>, id: i64) -> Result<Vec<Row>, ReadFault>
     requires autocommit { conn.old.in_transaction ≡ false }
     requires ready { HasCleanDisk (state S.Store conn.old) → IsReady (state S.Store conn.old) }
     ensures found { HasCleanDisk (state S.Store conn.new) → IfOk result (λ rows. AreOrdered (of_tenant devices_table id (state S.Store conn.old).now.trees) rows.items) }
-    ensures remains { HasCleanDisk (state S.Store conn.new) → result ≢ Err StoreFault.Failed → Remains (state S.Store conn.old) (state S.Store conn.new) }
-    ensures faults { IfErr result (λ fault. (fault ≡ StoreFault.NoMemory) ⊎ (fault ≡ StoreFault.Failed)) }
+    ensures remains { HasCleanDisk (state S.Store conn.new) → result ≢ Err ReadFault.Unseen → result ≢ Err ReadFault.Failed → Remains (state S.Store conn.old) (state S.Store conn.new) }
+    ensures failed { HasCleanDisk (state S.Store conn.new) → result ≡ Err ReadFault.Failed → MoreFaults (state S.Store conn.old).faults (state S.Store conn.new).faults }
+    ensures rows { result ≢ Err ReadFault.Damaged }
     ensures survives { Survives (state S.Store conn.old) (state S.Store conn.new) (λ _. ⊥) }
     ensures ended { conn.new.in_transaction ≡ false }
 {
@@ -77,19 +80,19 @@ fn device_rows<S: Alter>(conn: &mut Connection<S>, id: i64) -> Result<Vec<Row>, 
 
 /// Reads the states of the tenant's devices, whose numbers rise strictly.
 ///
-/// `Err(StoreFault::Damaged)`: a device occurs twice, or a row is none that this service writes.
-/// `Err(StoreFault::NoMemory)`: nothing is changed.
+/// `Err(ReadFault::Damaged)`: a device occurs twice, or a row is none that this service writes.
+/// `Err(ReadFault::NoMemory)`: nothing is changed.
 pub fn devices_of<S: Alter>(
     alloc: Global,
     conn: &mut Connection<S>,
     id: i64,
-) -> Result<Vec<State>, StoreFault>
+) -> Result<Vec<State>, ReadFault>
     requires autocommit { conn.old.in_transaction ≡ false }
     requires ready { HasCleanDisk (state S.Store conn.old) → IsReady (state S.Store conn.old) }
     ensures found { HasCleanDisk (state S.Store conn.new) → IfOk result (λ states. Lists (of_tenant devices_table id (state S.Store conn.old).now.trees) (map state_row states.items)) }
-    ensures damaged { HasCleanDisk (state S.Store conn.new) → result ≡ Err StoreFault.Damaged → (list : _) → AllByRecursion IsStateRow list → ¬ Lists (of_tenant devices_table id (state S.Store conn.old).now.trees) list }
-    ensures full { result ≢ Err StoreFault.Full }
-    ensures remains { HasCleanDisk (state S.Store conn.new) → result ≢ Err StoreFault.Failed → Remains (state S.Store conn.old) (state S.Store conn.new) }
+    ensures damaged { HasCleanDisk (state S.Store conn.new) → result ≡ Err ReadFault.Damaged → (list : _) → AllByRecursion IsStateRow list → ¬ Lists (of_tenant devices_table id (state S.Store conn.old).now.trees) list }
+    ensures remains { HasCleanDisk (state S.Store conn.new) → result ≢ Err ReadFault.Unseen → result ≢ Err ReadFault.Failed → Remains (state S.Store conn.old) (state S.Store conn.new) }
+    ensures failed { HasCleanDisk (state S.Store conn.new) → result ≡ Err ReadFault.Failed → MoreFaults (state S.Store conn.old).faults (state S.Store conn.new).faults }
     ensures survives { Survives (state S.Store conn.old) (state S.Store conn.new) (λ _. ⊥) }
     ensures ended { conn.new.in_transaction ≡ false }
 {
@@ -98,12 +101,13 @@ pub fn devices_of<S: Alter>(
 }
 
 /// Reads the pools of the tenant, by id.
-fn pool_rows<S: Alter>(conn: &mut Connection<S>, id: i64) -> Result<Vec<Row>, StoreFault>
+fn pool_rows<S: Alter>(conn: &mut Connection<S>, id: i64) -> Result<Vec<Row>, ReadFault>
     requires autocommit { conn.old.in_transaction ≡ false }
     requires ready { HasCleanDisk (state S.Store conn.old) → IsReady (state S.Store conn.old) }
     ensures found { HasCleanDisk (state S.Store conn.new) → IfOk result (λ rows. AreOrdered (of_tenant pools_table id (state S.Store conn.old).now.trees) rows.items) }
-    ensures remains { HasCleanDisk (state S.Store conn.new) → result ≢ Err StoreFault.Failed → Remains (state S.Store conn.old) (state S.Store conn.new) }
-    ensures faults { IfErr result (λ fault. (fault ≡ StoreFault.NoMemory) ⊎ (fault ≡ StoreFault.Failed)) }
+    ensures remains { HasCleanDisk (state S.Store conn.new) → result ≢ Err ReadFault.Unseen → result ≢ Err ReadFault.Failed → Remains (state S.Store conn.old) (state S.Store conn.new) }
+    ensures failed { HasCleanDisk (state S.Store conn.new) → result ≡ Err ReadFault.Failed → MoreFaults (state S.Store conn.old).faults (state S.Store conn.new).faults }
+    ensures rows { result ≢ Err ReadFault.Damaged }
     ensures survives { Survives (state S.Store conn.old) (state S.Store conn.new) (λ _. ⊥) }
     ensures ended { conn.new.in_transaction ≡ false }
 {
@@ -116,19 +120,19 @@ fn pool_rows<S: Alter>(conn: &mut Connection<S>, id: i64) -> Result<Vec<Row>, St
 
 /// Reads the pools of the tenant, whose ids rise strictly.
 ///
-/// `Err(StoreFault::Damaged)`: an id occurs twice, or a row is none that this service writes.
-/// `Err(StoreFault::NoMemory)`: nothing is changed.
+/// `Err(ReadFault::Damaged)`: an id occurs twice, or a row is none that this service writes.
+/// `Err(ReadFault::NoMemory)`: nothing is changed.
 pub fn pools_of<S: Alter>(
     alloc: Global,
     conn: &mut Connection<S>,
     id: i64,
-) -> Result<Vec<PoolRow>, StoreFault>
+) -> Result<Vec<PoolRow>, ReadFault>
     requires autocommit { conn.old.in_transaction ≡ false }
     requires ready { HasCleanDisk (state S.Store conn.old) → IsReady (state S.Store conn.old) }
     ensures found { HasCleanDisk (state S.Store conn.new) → IfOk result (λ pools. Lists (of_tenant pools_table id (state S.Store conn.old).now.trees) (map pool_values pools.items)) }
-    ensures damaged { HasCleanDisk (state S.Store conn.new) → result ≡ Err StoreFault.Damaged → (list : _) → AllByRecursion IsPoolRow list → ¬ Lists (of_tenant pools_table id (state S.Store conn.old).now.trees) list }
-    ensures full { result ≢ Err StoreFault.Full }
-    ensures remains { HasCleanDisk (state S.Store conn.new) → result ≢ Err StoreFault.Failed → Remains (state S.Store conn.old) (state S.Store conn.new) }
+    ensures damaged { HasCleanDisk (state S.Store conn.new) → result ≡ Err ReadFault.Damaged → (list : _) → AllByRecursion IsPoolRow list → ¬ Lists (of_tenant pools_table id (state S.Store conn.old).now.trees) list }
+    ensures remains { HasCleanDisk (state S.Store conn.new) → result ≢ Err ReadFault.Unseen → result ≢ Err ReadFault.Failed → Remains (state S.Store conn.old) (state S.Store conn.new) }
+    ensures failed { HasCleanDisk (state S.Store conn.new) → result ≡ Err ReadFault.Failed → MoreFaults (state S.Store conn.old).faults (state S.Store conn.new).faults }
     ensures survives { Survives (state S.Store conn.old) (state S.Store conn.new) (λ _. ⊥) }
     ensures ended { conn.new.in_transaction ≡ false }
 {
@@ -141,12 +145,13 @@ fn receipt_rows<S: Alter>(
     conn: &mut Connection<S>,
     id: i64,
     request: &str,
-) -> Result<Vec<Row>, StoreFault>
+) -> Result<Vec<Row>, ReadFault>
     requires autocommit { conn.old.in_transaction ≡ false }
     requires ready { HasCleanDisk (state S.Store conn.old) → IsReady (state S.Store conn.old) }
     ensures found { HasCleanDisk (state S.Store conn.new) → IfOk result (λ rows. IsPermutation (receipts_with (state S.Store conn.old).now.trees id request.now) rows.items) }
-    ensures remains { HasCleanDisk (state S.Store conn.new) → result ≢ Err StoreFault.Failed → Remains (state S.Store conn.old) (state S.Store conn.new) }
-    ensures faults { IfErr result (λ fault. (fault ≡ StoreFault.NoMemory) ⊎ (fault ≡ StoreFault.Failed)) }
+    ensures remains { HasCleanDisk (state S.Store conn.new) → result ≢ Err ReadFault.Unseen → result ≢ Err ReadFault.Failed → Remains (state S.Store conn.old) (state S.Store conn.new) }
+    ensures failed { HasCleanDisk (state S.Store conn.new) → result ≡ Err ReadFault.Failed → MoreFaults (state S.Store conn.old).faults (state S.Store conn.new).faults }
+    ensures rows { result ≢ Err ReadFault.Damaged }
     ensures survives { Survives (state S.Store conn.old) (state S.Store conn.new) (λ _. ⊥) }
     ensures ended { conn.new.in_transaction ≡ false }
 {
@@ -159,19 +164,19 @@ fn receipt_rows<S: Alter>(
 
 /// Reads the tenant's receipt of the request, or `None` where there is none.
 ///
-/// `Err(StoreFault::Damaged)`: there are several, or the row is none that this service writes.
-/// `Err(StoreFault::NoMemory)`: nothing is changed.
+/// `Err(ReadFault::Damaged)`: there are several, or the row is none that this service writes.
+/// `Err(ReadFault::NoMemory)`: nothing is changed.
 pub fn receipt_of<S: Alter>(
     conn: &mut Connection<S>,
     id: i64,
     request: &str,
-) -> Result<Option<ReceiptRow>, StoreFault>
+) -> Result<Option<ReceiptRow>, ReadFault>
     requires autocommit { conn.old.in_transaction ≡ false }
     requires ready { HasCleanDisk (state S.Store conn.old) → IsReady (state S.Store conn.old) }
     ensures found { HasCleanDisk (state S.Store conn.new) → IfOk result (AreReceipt (receipts_with (state S.Store conn.old).now.trees id request.now)) }
-    ensures damaged { HasCleanDisk (state S.Store conn.new) → result ≡ Err StoreFault.Damaged → (receipts_with (state S.Store conn.old).now.trees id request.now ≢ []) × ((row : _) → IsReceiptRow row → receipts_with (state S.Store conn.old).now.trees id request.now ≢ row ∷ []) }
-    ensures full { result ≢ Err StoreFault.Full }
-    ensures remains { HasCleanDisk (state S.Store conn.new) → result ≢ Err StoreFault.Failed → Remains (state S.Store conn.old) (state S.Store conn.new) }
+    ensures damaged { HasCleanDisk (state S.Store conn.new) → result ≡ Err ReadFault.Damaged → (receipts_with (state S.Store conn.old).now.trees id request.now ≢ []) × ((row : _) → IsReceiptRow row → receipts_with (state S.Store conn.old).now.trees id request.now ≢ row ∷ []) }
+    ensures remains { HasCleanDisk (state S.Store conn.new) → result ≢ Err ReadFault.Unseen → result ≢ Err ReadFault.Failed → Remains (state S.Store conn.old) (state S.Store conn.new) }
+    ensures failed { HasCleanDisk (state S.Store conn.new) → result ≡ Err ReadFault.Failed → MoreFaults (state S.Store conn.old).faults (state S.Store conn.new).faults }
     ensures survives { Survives (state S.Store conn.old) (state S.Store conn.new) (λ _. ⊥) }
     ensures ended { conn.new.in_transaction ≡ false }
 {

@@ -5,30 +5,30 @@ ghost use Rattle.std.specs.List.{AllByRecursion};
 ghost use Rattle.sqlite_value.specs.Order.{Row as Values};
 ghost use Rattle.table_reads.specs.Found.{IsRising};
 
+use crate::fault::ReadFault;
 use crate::rows::TenantRow;
 use sqlite::Row;
 use std::alloc::{AllocError, Global};
-use store_faults::StoreFault;
 
 /// Returns the one row as a value, or `None` where there is no row.
 ///
-/// `Err(StoreFault::Damaged)`: there are several rows, or the row is no row of a `T`.
-pub fn one_of<T: TenantRow + Drop>(rows: &[Row]) -> Result<Option<T>, StoreFault>
+/// `Err(ReadFault::Damaged)`: there are several rows, or the row is no row of a `T`.
+pub fn one_of<T: TenantRow + Drop>(rows: &[Row]) -> Result<Option<T>, ReadFault>
     ensures some { IfOk result (λ o. IfSome o (λ x. rows.now ≡ T.values x ∷ [])) }
     ensures none { IfOk result (λ o. o ≡ None → rows.now ≡ []) }
-    ensures damaged { result ≡ Err StoreFault.Damaged → (rows.now ≢ []) × ((row : Values) → T.is_one row → rows.now ≢ row ∷ []) }
-    ensures faults { IfErr result (λ fault. (fault ≡ StoreFault.NoMemory) ⊎ (fault ≡ StoreFault.Damaged)) }
+    ensures damaged { result ≡ Err ReadFault.Damaged → (rows.now ≢ []) × ((row : Values) → T.is_one row → rows.now ≢ row ∷ []) }
+    ensures faults { IfErr result (λ fault. (fault ≡ ReadFault.NoMemory) ⊎ (fault ≡ ReadFault.Damaged)) }
 {
     let [row] = rows else {
         return if rows.is_empty() {
             Ok(None)
         } else {
-            Err(StoreFault::Damaged)
+            Err(ReadFault::Damaged)
         };
     };
     match T::from_values(row)? {
         Some(value) => Ok(Some(value)),
-        None => Err(StoreFault::Damaged),
+        None => Err(ReadFault::Damaged),
     }
 }
 
@@ -64,14 +64,14 @@ fn rise<T: TenantRow>(list: &[T]) -> bool
 
 /// Returns the rows as values, which rise strictly by their keys.
 ///
-/// `Err(StoreFault::Damaged)`: the keys do not rise, or one row is no row of a `T`.
-pub fn list_of<T: TenantRow + Drop>(alloc: Global, rows: &[Row]) -> Result<Vec<T>, StoreFault>
+/// `Err(ReadFault::Damaged)`: the keys do not rise, or one row is no row of a `T`.
+pub fn list_of<T: TenantRow + Drop>(alloc: Global, rows: &[Row]) -> Result<Vec<T>, ReadFault>
     ensures list { IfOk result (λ list. (rows.now ≡ map T.values list.items) × IsRising rows.now) }
-    ensures damaged { result ≡ Err StoreFault.Damaged → AllByRecursion T.is_one rows.now → ¬ IsRising rows.now }
-    ensures faults { IfErr result (λ fault. (fault ≡ StoreFault.NoMemory) ⊎ (fault ≡ StoreFault.Damaged)) }
+    ensures damaged { result ≡ Err ReadFault.Damaged → AllByRecursion T.is_one rows.now → ¬ IsRising rows.now }
+    ensures faults { IfErr result (λ fault. (fault ≡ ReadFault.NoMemory) ⊎ (fault ≡ ReadFault.Damaged)) }
 {
     match all_in(alloc, rows)? {
         Some(list) if rise(&list) => Ok(list),
-        _ => Err(StoreFault::Damaged),
+        _ => Err(ReadFault::Damaged),
     }
 }

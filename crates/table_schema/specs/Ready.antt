@@ -1,5 +1,5 @@
 -- The connection between transactions, and how a call leaves it.
-use Rattle.std.specs.Prelude.{◌≡◌, ◌⊎◌, IsTrue}
+use Rattle.std.specs.Prelude.{◌≡◌, ◌⊎◌, None, IsTrue}
 use Rattle.sqlite_trees.specs.Tree.{Trees}
 use Rattle.sqlite.specs.Effect.{Database, IsDatabase}
 use Rattle.sqlite.specs.State.{State as Shown, IsUnchanged}
@@ -23,13 +23,15 @@ pub record Commits (old new : Shown) (db : Database) : Type 0 where
 abbrev pub Rests : Shown → Shown → Type 0
 Rests old new = IsUnchanged old new ⊎ Keeps old new
 
--- The connection is open between transactions, and has this service's tables.
+-- The connection is open between transactions, and has this service's tables. Its statements may take
+-- any number of steps.
 pub record IsReady (s : Shown) : Type 0 where
   pub is_open : IsTrue s.is_open
   pub schema : IsStoreSchema s.now.schema
   pub tables : AreTables s.now.trees
   pub sound : IsDatabase s.now
   pub settled : s.now ≡ s.committed
+  pub unlimited : s.step_limit ≡ None
 
 -- The call was refused: the connection is ready as before, with the same rows, which a crash
 -- doesn't change.

@@ -110,13 +110,14 @@ created_tables name id old new up added =
 
 -- ---- the whole transactions
 
-pub ready_after : (old new : State) (db : Database) → Commits old new db → AreSound db → IsReady new
-ready_after old new db commits sound = record {
+pub ready_after : (old new : State) (db : Database) → IsReady old → Commits old new db → AreSound db → new.step_limit ≡ old.step_limit → IsReady new
+ready_after old new db ready commits sound limit = record {
   is_open = commits.is_open;
   schema = (sound.schema.0, ap (λ (d : Database). d.schema) commits.now ∙ sound.schema.1);
   tables = subst (λ (d : Database). AreTables d.trees) (sym commits.now) sound.tables;
   sound = subst IsDatabase (sym commits.now) sound.sound;
   settled = commits.now ∙ sym commits.committed;
+  unlimited = limit ∙ ready.unlimited;
 }
 
 module _ {S : Type 0} (g : Ghosts S) (old : Held S) (ready : IsReady (state g old)) where
@@ -143,8 +144,8 @@ module _ {S : Type 0} (g : Ghosts S) (old : Held S) (ready : IsReady (state g ol
       )
 
 -- a refusal leaves the rows, and the connection ready
-pub refused_after : (old mid new : State) → IsReady old → Keeps old mid → IsUnchanged mid new → ((db : Trees) → new.may_leave db → db ≡ new.committed.trees) → Refuses old new
-refused_after old mid new ready kept same settled =
+pub refused_after : (old mid new : State) → IsReady old → Keeps old mid → IsUnchanged mid new → mid.step_limit ≡ old.step_limit → new.step_limit ≡ mid.step_limit → ((db : Trees) → new.may_leave db → db ≡ new.committed.trees) → Refuses old new
+refused_after old mid new ready kept same limit again settled =
     let now : new.now ≡ old.now = same.0.now_is ∙ kept.now same.0.was_open ∙ sym ready.settled in
     let committed : new.committed ≡ old.now = same.0.committed_is ∙ kept.committed same.0.was_open ∙ sym ready.settled in
     record {
@@ -154,6 +155,7 @@ refused_after old mid new ready kept same settled =
         tables = subst (λ (d : Database). AreTables d.trees) (sym now) ready.tables;
         sound = subst IsDatabase (sym now) ready.sound;
         settled = now ∙ sym committed;
+        unlimited = again ∙ limit ∙ ready.unlimited;
       };
       same = now;
       alone = λ db may. settled db may ∙ ap (λ (d : Database). d.trees) committed;

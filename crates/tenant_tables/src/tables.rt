@@ -22,6 +22,7 @@ use std::alloc::Global;
 use std::marker::Model;
 use store_faults::StoreFault;
 use table_reads::exceptions::exceptions_of;
+use table_reads::fault::ReadFault;
 use table_reads::find::{Tenant, find};
 use table_reads::lists::{devices_of, pools_of, receipt_of, versions_of};
 use table_reads::pages::{first_receipts, receipts_after};
@@ -61,6 +62,23 @@ fn latched<T>(is_latched: &mut bool, answer: Result<T, StoreFault>) -> Result<T,
 {
     *is_latched = matches!(answer, Err(StoreFault::Failed));
     answer
+}
+
+/// Returns the fault that is reported of a read, and latches the tables where the connection is
+/// lost, or may be.
+fn latch(is_latched: &mut bool, why: ReadFault) -> StoreFault
+    ensures latch { is_latched.new ≡ true ↔ result ≡ StoreFault.Failed }
+    ensures damaged { result ≡ StoreFault.Damaged ↔ why ≡ ReadFault.Damaged }
+    ensures stands { result ≢ StoreFault.Failed → (why ≢ ReadFault.Unseen) × (why ≢ ReadFault.Failed) }
+    ensures full { result ≢ StoreFault.Full }
+{
+    let fault = match why {
+        ReadFault::NoMemory => StoreFault::NoMemory,
+        ReadFault::Damaged => StoreFault::Damaged,
+        ReadFault::Unseen | ReadFault::Failed => StoreFault::Failed,
+    };
+    *is_latched = matches!(fault, StoreFault::Failed);
+    fault
 }
 
 impl<S: Alter + Drop> Tables<S> {
@@ -162,7 +180,10 @@ impl<S: Alter> Tables<S> {
         ensures latches { self.new.1 ≡ true ↔ result ≡ Err StoreFault.Failed }
         ensures crash { Survives (state S.Store self.old.0) (state S.Store self.new.0) (λ _. ⊥) }
     {
-        latched(&mut self.is_latched, find(&mut self.conn, name))
+        match find(&mut self.conn, name) {
+            Ok(found) => Ok(found),
+            Err(why) => Err(latch(&mut self.is_latched, why)),
+        }
     }
 
     /// Reads the versions of the map of the tenant with the number `id`, which rise strictly.
@@ -178,10 +199,10 @@ impl<S: Alter> Tables<S> {
         ensures latches { self.new.1 ≡ true ↔ result ≡ Err StoreFault.Failed }
         ensures crash { Survives (state S.Store self.old.0) (state S.Store self.new.0) (λ _. ⊥) }
     {
-        latched(
-            &mut self.is_latched,
-            versions_of(self.alloc, &mut self.conn, id),
-        )
+        match versions_of(self.alloc, &mut self.conn, id) {
+            Ok(found) => Ok(found),
+            Err(why) => Err(latch(&mut self.is_latched, why)),
+        }
     }
 
     /// Reads the states of devices of the tenant with the number `id`, by the devices, which rise
@@ -198,10 +219,10 @@ impl<S: Alter> Tables<S> {
         ensures latches { self.new.1 ≡ true ↔ result ≡ Err StoreFault.Failed }
         ensures crash { Survives (state S.Store self.old.0) (state S.Store self.new.0) (λ _. ⊥) }
     {
-        latched(
-            &mut self.is_latched,
-            devices_of(self.alloc, &mut self.conn, id),
-        )
+        match devices_of(self.alloc, &mut self.conn, id) {
+            Ok(found) => Ok(found),
+            Err(why) => Err(latch(&mut self.is_latched, why)),
+        }
     }
 
     /// Reads the pools of the tenant with the number `id`, by their ids, which rise strictly.
@@ -217,10 +238,10 @@ impl<S: Alter> Tables<S> {
         ensures latches { self.new.1 ≡ true ↔ result ≡ Err StoreFault.Failed }
         ensures crash { Survives (state S.Store self.old.0) (state S.Store self.new.0) (λ _. ⊥) }
     {
-        latched(
-            &mut self.is_latched,
-            pools_of(self.alloc, &mut self.conn, id),
-        )
+        match pools_of(self.alloc, &mut self.conn, id) {
+            Ok(found) => Ok(found),
+            Err(why) => Err(latch(&mut self.is_latched, why)),
+        }
     }
 
     /// Reads the exceptions of the pools of the tenant with the number `id`, by pool and place. No
@@ -237,10 +258,10 @@ impl<S: Alter> Tables<S> {
         ensures latches { self.new.1 ≡ true ↔ result ≡ Err StoreFault.Failed }
         ensures crash { Survives (state S.Store self.old.0) (state S.Store self.new.0) (λ _. ⊥) }
     {
-        latched(
-            &mut self.is_latched,
-            exceptions_of(self.alloc, &mut self.conn, id),
-        )
+        match exceptions_of(self.alloc, &mut self.conn, id) {
+            Ok(found) => Ok(found),
+            Err(why) => Err(latch(&mut self.is_latched, why)),
+        }
     }
 
     /// Reads the receipt of the request of the tenant with the number `id`, or `None` where there
@@ -257,10 +278,10 @@ impl<S: Alter> Tables<S> {
         ensures latches { self.new.1 ≡ true ↔ result ≡ Err StoreFault.Failed }
         ensures crash { Survives (state S.Store self.old.0) (state S.Store self.new.0) (λ _. ⊥) }
     {
-        latched(
-            &mut self.is_latched,
-            receipt_of(&mut self.conn, id, request),
-        )
+        match receipt_of(&mut self.conn, id, request) {
+            Ok(found) => Ok(found),
+            Err(why) => Err(latch(&mut self.is_latched, why)),
+        }
     }
 
     /// Reads the first receipts of the tenant with the number `id`, in the order of their requests'
@@ -277,10 +298,10 @@ impl<S: Alter> Tables<S> {
         ensures latches { self.new.1 ≡ true ↔ result ≡ Err StoreFault.Failed }
         ensures crash { Survives (state S.Store self.old.0) (state S.Store self.new.0) (λ _. ⊥) }
     {
-        latched(
-            &mut self.is_latched,
-            first_receipts(self.alloc, &mut self.conn, id),
-        )
+        match first_receipts(self.alloc, &mut self.conn, id) {
+            Ok(found) => Ok(found),
+            Err(why) => Err(latch(&mut self.is_latched, why)),
+        }
     }
 
     /// Reads the first receipts of the tenant with the number `id` whose requests are above
@@ -298,9 +319,9 @@ impl<S: Alter> Tables<S> {
         ensures latches { self.new.1 ≡ true ↔ result ≡ Err StoreFault.Failed }
         ensures crash { Survives (state S.Store self.old.0) (state S.Store self.new.0) (λ _. ⊥) }
     {
-        latched(
-            &mut self.is_latched,
-            receipts_after(self.alloc, &mut self.conn, id, after),
-        )
+        match receipts_after(self.alloc, &mut self.conn, id, after) {
+            Ok(found) => Ok(found),
+            Err(why) => Err(latch(&mut self.is_latched, why)),
+        }
     }
 }

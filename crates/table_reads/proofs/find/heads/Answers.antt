@@ -2,10 +2,14 @@ use Rattle.std.proofs.Common.{arith}
 use Rattle.std.proofs.lemmas.Result.{IfOk-weaker}
 use Rattle.sqlite.specs.Held.{state}
 use Rattle.table_reads.proofs.Asking.{find_is, finds}
+use Rattle.table_reads.proofs.Safe.{heads_safe}
 use Rattle.table_reads.proofs.find.heads.Goals as goal
 
 pub ask-requires-clause-plain : goal.ask-requires-clause-plain
 ask-requires-clause-plain g c = λ layout. (find_is layout).2
+
+pub ask-requires-clause-safe : goal.ask-requires-clause-safe
+ask-requires-clause-safe g c = λ layout. heads_safe layout _
 
 pub returns-clause-found : goal.returns-clause-found
 returns-clause-found g c clean =

@@ -5,10 +5,14 @@ use Rattle.std.proofs.lemmas.Int.{to_z-of_z}
 use Rattle.std.proofs.lemmas.Result.{IfOk-weaker}
 use Rattle.sqlite.specs.Held.{state}
 use Rattle.table_reads.proofs.Listing.{pools_of_is, reads_pools}
+use Rattle.table_reads.proofs.Safe.{pools_safe}
 use Rattle.table_reads.proofs.lists.pool_rows.Goals as goal
 
 pub ask-requires-clause-plain : goal.ask-requires-clause-plain
 ask-requires-clause-plain g c = λ layout. (pools_of_is layout).plain
+
+pub ask-requires-clause-safe : goal.ask-requires-clause-safe
+ask-requires-clause-safe g c = λ layout. pools_safe layout _
 
 pub returns-clause-found : goal.returns-clause-found
 returns-clause-found g c clean =

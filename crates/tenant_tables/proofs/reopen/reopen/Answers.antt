@@ -21,6 +21,7 @@ returns-then-is_laid_out-clause-ready g c clean =
       tables = named_tables c.in-Some.layout (state g.S.Store c.in-Ok.conn).now sound has (subst (AreTablesAt c.in-Some.layout) (sym (c.in-Ok.ensures.trees clean)) (c.are_rows.ensures.tables c.if-not-are_rows.false early));
       sound = sound;
       settled = both.0.clean;
+      unlimited = c.in-Ok.ensures.fresh.unlimited;
     }
 
 pub returns-then-is_laid_out-clause-same : goal.returns-then-is_laid_out-clause-same

@@ -12,11 +12,11 @@ returns-in-Err-clause-refused g c clean other =
     let middle : HasCleanDisk mid = omega (arith, clean, c.refusal.ensures.survives.clean) in
     let early : HasCleanDisk old = omega (arith, middle, c.run_all.ensures.crash.clean) in
     let same = c.refusal.ensures.open clean (λ failed. other (ap Err failed)) in
-    refused_after old mid new (c.requires.ready early) (c.in-Err.ensures.kept middle) same (λ db may. g.met.S.Store.settled c.refusal.new.conn.store db same.0.is_open may)
+    refused_after old mid new (c.requires.ready early) (c.in-Err.ensures.kept middle) same c.run_all.ensures.crash.limit c.refusal.ensures.survives.limit (λ db may. g.met.S.Store.settled c.refusal.new.conn.store db same.0.is_open may)
 
 pub returns-in-Ok-clause-ready : goal.returns-in-Ok-clause-ready
 returns-in-Ok-clause-ready g c clean =
     let old = state g.S.Store c.args.conn.now in
     let early : HasCleanDisk old = omega (arith, clean, c.run_all.ensures.crash.clean) in
     let done = c.in-Ok.ensures.done clean in
-    ready_after old (state g.S.Store c.run_all.new.conn) done.0 done.2 (c.requires.sound early done.0 done.1)
+    ready_after old (state g.S.Store c.run_all.new.conn) done.0 (c.requires.ready early) done.2 (c.requires.sound early done.0 done.1) c.run_all.ensures.crash.limit

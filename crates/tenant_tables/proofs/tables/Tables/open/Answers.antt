@@ -13,7 +13,7 @@ invariant_of-result g c = (
   λ _ clean.
       let mid = state g.S.Store c.in-Ok.conn in
       let early : HasCleanDisk mid = omega (arith, clean, c.get_ready.ensures.survives.clean) in
-      (remains mid (state g.S.Store c.get_ready.new.conn) (c.in-Ok.ensures.ready early) (c.in-Ok-get_ready.ensures.ok clean)).ready,
+      (remains mid (state g.S.Store c.get_ready.new.conn) (c.in-Ok.ensures.ready early) (c.in-Ok-get_ready.ensures.ok clean) c.get_ready.ensures.survives.limit).ready,
 )
 
 pub returns-in-Ok-get_ready-clause-clean : goal.returns-in-Ok-get_ready-clause-clean
@@ -26,7 +26,7 @@ pub returns-in-Ok-get_ready-clause-alone : goal.returns-in-Ok-get_ready-clause-a
 returns-in-Ok-get_ready-clause-alone g c clean db left =
     let mid = state g.S.Store c.in-Ok.conn in
     let early : HasCleanDisk mid = omega (arith, clean, c.get_ready.ensures.survives.clean) in
-    let it = (remains mid (state g.S.Store c.get_ready.new.conn) (c.in-Ok.ensures.ready early) (c.in-Ok-get_ready.ensures.ok clean)).ready in
+    let it = (remains mid (state g.S.Store c.get_ready.new.conn) (c.in-Ok.ensures.ready early) (c.in-Ok-get_ready.ensures.ok clean) c.get_ready.ensures.survives.limit).ready in
     g.met.S.Store.settled c.get_ready.new.conn.store db it.is_open left ∙ ap (λ (d : Database). d.trees) (sym it.settled)
 
 pub returns-in-Err-get_ready-clause-crash : goal.returns-in-Err-get_ready-clause-crash
@@ -62,7 +62,7 @@ returns-in-Ok-get_ready-clause-made g c clean has =
     let last = state g.S.Store c.get_ready.new.conn in
     let early : HasCleanDisk mid = omega (arith, clean, c.get_ready.ensures.survives.clean) in
     let done = c.in_default.ensures.made (c.in-Ok.ensures.clean early) has in
-    let it = remains mid last (c.in-Ok.ensures.ready early) (c.in-Ok-get_ready.ensures.ok clean) in
+    let it = remains mid last (c.in-Ok.ensures.ready early) (c.in-Ok-get_ready.ensures.ok clean) c.get_ready.ensures.survives.limit in
     let same = ap (λ (d : Database). d.trees) it.same ∙ c.in-Ok.ensures.same early ∙ ap (λ (d : Database). d.trees) done.2.committed in
     bare_again done.0 last.now done.1 same it.ready.schema it.ready.sound
 
@@ -72,6 +72,6 @@ returns-in-Ok-get_ready-clause-migrated g c clean has =
     let last = state g.S.Store c.get_ready.new.conn in
     let early : HasCleanDisk mid = omega (arith, clean, c.get_ready.ensures.survives.clean) in
     let done = c.in_default.ensures.migrated (c.in-Ok.ensures.clean early) has in
-    let it = remains mid last (c.in-Ok.ensures.ready early) (c.in-Ok-get_ready.ensures.ok clean) in
+    let it = remains mid last (c.in-Ok.ensures.ready early) (c.in-Ok-get_ready.ensures.ok clean) c.get_ready.ensures.survives.limit in
     let same = ap (λ (d : Database). d.trees) it.same ∙ c.in-Ok.ensures.same early ∙ ap (λ (d : Database). d.trees) done.2.committed in
     migrated_again (state g.S.Store c.args.conn).now done.0 last.now done.1 same it.ready.schema it.ready.sound
