@@ -103,7 +103,7 @@ def same_usage(page, program, folder):
     page.settled()
     whys, said = [], plan(program, folder, "usage")
     copies, wanted = sum(it["copies"] for it in said["pools"]), sum(it["wanted"] for it in said["pools"])
-    ends = {"most": said["greatest"]["percent"], "least": said["least"]["percent"]}
+    ends = {shown: said[key]["percent"] for shown, key in (("most", "greatest"), ("least", "least")) if said[key]}
     whys.append(unlike(page.figures(), {"copies": counted(copies), **({"missing": counted(wanted - copies)} if wanted > copies else {}), **{key: percent(it, 1) for key, it in ends.items()}}, "usage:"))
     for level in ("device", "host", "rack"):
         rows = plan(program, folder, "usage", *(["--by", level] if level != "device" else []))["rows"]

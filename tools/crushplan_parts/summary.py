@@ -99,8 +99,8 @@ class PoolChange:
 
 
 def whole(value):
-    """Returns a number of bytes rounded to whole ones, or None."""
-    return None if value is None else round(value)
+    """Returns a number of bytes rounded half up to whole ones, as all others, or None."""
+    return None if value is None else int((2 * value + 1) // 2)
 
 
 class Device:
