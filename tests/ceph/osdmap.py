@@ -22,6 +22,7 @@ TYPE, SIZE, RULE, PG_NUM, PGP_NUM, FLAGS, MIN_SIZE = 0, 1, 2, 4, 8, 52, 64
 NONE = 2_147_483_647  # CRUSH_ITEM_NONE
 UPMAP_FORM = 9  # of the section of an encoded map for clients
 CRUSH_MAGIC = struct.pack("<I", 0x00010000)
+LEAST_MAP = 64  # bytes of a CRUSH map
 
 
 def checksums():
@@ -135,9 +136,10 @@ def with_affinities(data, affinities, devices):
     client = data[12:client_end]
     # before the CRUSH map, which begins with its length and a number of its own, are the lists of
     # pg_temp, of primary_temp and of affinities
-    place = client.index(CRUSH_MAGIC) - 8
-    if client[place - 8 : place + 4] != bytes(12) or client.count(CRUSH_MAGIC) != 1:
+    places = [at for at in range(16, len(client) - 4) if client[at : at + 4] == CRUSH_MAGIC and client[at - 16 : at - 4] == bytes(12) and LEAST_MAP < number(client, at - 4) <= len(client) - at]
+    if len(places) != 1:
         raise library.Failed("osdmaptool's map is of another form, or has affinities")
+    place = places[0] - 8
     numbers = [devices, *(affinities.get(it, 65536) for it in range(devices))]
     client = client[:place] + struct.pack(f"<{len(numbers)}I", *numbers) + client[place + 4 :]
     whole = section(data[:2], section(data[6:8], client) + data[client_end:])[:-4]

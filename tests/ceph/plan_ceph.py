@@ -219,7 +219,7 @@ class Ceph:
             yield self.changed("straw2.json", self.rebuilt(self.folder / "straw2.bin"))
         if self.alg("straw2") and not self.alg("tree", "uniform"):
             yield self.changed("host.json", self.with_host(drawn), 2)
-        if hasattr(map_, "class_of"):
+        if hasattr(map_, "class_of") and not self.alg("straw"):
             host = drawn.choice(self.cluster.names(HOST))
             classes = {map_.class_of[it] for it in self.devices_below(host)}
             class_ = drawn.choice(sorted({"hdd", "ssd"} - classes) or ["hdd", "ssd"])
