@@ -23,8 +23,8 @@ pub record Commits (old new : Shown) (db : Database) : Type 0 where
 abbrev pub Rests : Shown → Shown → Type 0
 Rests old new = IsUnchanged old new ⊎ Keeps old new
 
--- The connection is open between transactions, and has this service's tables. Its statements may take
--- any number of steps.
+-- The connection is open between transactions, and has this service's tables. Its statements may
+-- take any number of steps.
 pub record IsReady (s : Shown) : Type 0 where
   pub is_open : IsTrue s.is_open
   pub schema : IsStoreSchema s.now.schema
