@@ -50,7 +50,8 @@ def fault_over_file(run, lines, live, many=1):
         return None, live
     within = may_be_refused(run, lines, many)
     # where the closing found no memory all lines were served
-    if (run.status, run.err) != (0, b"") and not (early and (run.mark == len(lines) or within.stop == len(lines) and many != 1)):
+    closes = run.mark == len(lines) or many != 1 and within.stop == len(lines)
+    if (run.status, run.err) != (0, b"") and not (early and closes):
         return f"status {run.status}, standard error {short(run.err)}, after {len(replies)} replies", live
     if len(replies) != len(lines) or not run.out.endswith(b"\n"):
         return f"{len(replies)} whole replies to {len(lines)} lines", live
