@@ -208,6 +208,21 @@ pub(crate) fn uniform_item(bucket: &AnyBucket, perm: &mut Perm, x: u32, r: u32) 
     bucket.item(perm.member(x, asked_place(r, bucket.items.len())))
 }
 
+/// Picks as a bucket that is known to be a list does.
+#[inline]
+#[tactic(auto, unfolding(crate::specs::Pick::pick))]
+pub(crate) fn list_bucket_item(bucket: &AnyBucket, x: u32, r: u32) -> ItemId
+    requires kind { bucket.now.kind ≡ Kind.List }
+    requires some { 0 < length bucket.now.items }
+    ensures picked { result ≡ pick bucket.now x r }
+    ensures item { IsItemOf bucket.now.items result }
+{
+    match &bucket.draw {
+        Draw::List(sums) => list_item(bucket.id, &bucket.items, sums, x, r),
+        _ => unreachable!(),
+    }
+}
+
 /// Picks as a bucket that is known to be a tree does.
 #[inline]
 #[tactic(auto, unfolding(crate::specs::Pick::pick))]
@@ -221,6 +236,18 @@ pub(crate) fn tree_item(bucket: &AnyBucket, x: u32, r: u32) -> ItemId
         Draw::Tree(tree) => TreeRef::new(bucket, tree).item(x, r),
         _ => unreachable!(),
     }
+}
+
+/// Picks as a bucket that is known to be straw2 does.
+#[inline]
+#[tactic(auto, unfolding(crate::specs::Pick::pick))]
+pub(crate) fn straw2_bucket_item(bucket: &AnyBucket, x: u32, r: u32) -> ItemId
+    requires kind { bucket.now.kind ≡ Kind.Straw2 }
+    requires some { 0 < length bucket.now.items }
+    ensures picked { result ≡ pick bucket.now x r }
+    ensures item { IsItemOf bucket.now.items result }
+{
+    straw2_item(&bucket.items, x, r)
 }
 
 /// Makes what a bucket of the kind `kind` stores beside its items.

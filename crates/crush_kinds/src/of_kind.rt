@@ -140,7 +140,7 @@ impl Picker for ListBucket {
     ghost bucket = { λ b. b };
 
     fn pick(&self, perm: &mut Perm, x: u32, r: u32) -> ItemId {
-        self.bucket.pick(perm, x, r)
+        crate::any::list_bucket_item(&self.bucket, x, r)
     }
 
     fn pick_eight(&self, perm: &mut Perm, xs: &[u32; 8], r: u32) -> [ItemId; 8] {
@@ -276,7 +276,7 @@ impl Picker for Straw2Bucket {
     ghost bucket = { λ b. b };
 
     fn pick(&self, perm: &mut Perm, x: u32, r: u32) -> ItemId {
-        self.bucket.pick(perm, x, r)
+        crate::any::straw2_bucket_item(&self.bucket, x, r)
     }
 
     fn pick_eight(&self, perm: &mut Perm, xs: &[u32; 8], r: u32) -> [ItemId; 8] {
