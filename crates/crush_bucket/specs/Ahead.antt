@@ -2,7 +2,7 @@
 use Rattle.std.specs.Prelude.{◌≡◌, ℕ, ◌<◌, List, slice_index, slice_index_or}
 use Rattle.crush_types.specs.declared.ItemId.{ItemId}
 use Rattle.crush_kinds.specs.Bucket.{IsItemOf}
-use Rattle.crush_permutation.specs.Permutation.{no_id}
+use Rattle.crush_hash.specs.Permutation.{no_id}
 use Rattle.crush_bucket.specs.Tables.{TablesView, bucket_at, pick_at}
 
 -- the item is what the bucket with a number picks, and one of its items

@@ -8,7 +8,7 @@ pub use crush_kinds::laws::{
     a_pick_is_an_item, a_pick_is_pickable, greatest_passes, height_is_least,
 };
 use crush_map::buckets_are_sound;
-use crush_permutation::laws::permutation_has_each_place;
+use crush_hash::laws::permutation_has_each_place;
 
 /// On the tables of a map each bucket picks devices and buckets of smaller numbers alone.
 pub fn buckets_of_a_map_pick_below()

@@ -8,7 +8,7 @@ use crate::number::BucketNo;
 use crate::tables::Tables;
 use crush_kinds::AnyBucket;
 use crush_map::ItemId;
-use crush_permutation::Perms;
+use crush_hash::Perms;
 use std::alloc::{AllocError, Global};
 use std::marker::Model;
 

@@ -211,6 +211,17 @@ mod lanes;
 
 pub use four_lanes::{hash3_four, hash3_lanes, hash4_four};
 pub use lanes::{hash3_each, hash3_items, hash4_each, hash4_lanes};
+pub use eight::eight_members;
+pub use perm::Perm;
+pub use perms::Perms;
 
 #[cfg(test)]
 mod tests;
+mod early;
+mod eight;
+pub mod laws;
+mod pairs;
+mod perm;
+mod perms;
+mod place_hashes;
+mod reached;

@@ -5,7 +5,7 @@ use Rattle.crush_types.specs.declared.Kind.{Kind}
 use Rattle.crush_types.specs.declared.Kind.TheVariants.{Uniform, List as ListKind, Tree, Straw2}
 use Rattle.crush_kinds.specs.Bucket.{BucketView, WeightedItem, item_at, IsItemOf}
 use Rattle.crush_kinds.specs.Kinds.{uniform_pick, takes, greatest, list_pick, place_within, height_of, tree_pick, straw2_pick, straw2_place}
-use Rattle.crush_permutation.specs.Permutation.{permutation}
+use Rattle.crush_hash.specs.Permutation.{permutation}
 use Rattle.crush_kinds.specs.Pick.{pick, pick_as}
 use Rattle.crush_kinds.specs.Laws.{IsGreatest, NonePasses}
 use Rattle.crush_kinds.proofs.Greatest.{greatest_is}

@@ -1,7 +1,7 @@
 -- A bucket of a CRUSH map, as its pick sees it.
 use Rattle.std.specs.Prelude.{◌≡◌, ℕ, ◌<◌, ◌^◌, List, length, take, drop, slice_index_or, SomeIndex, All, pos}
 pub use Rattle.crush_types.specs.Weights.{total_weight}
-pub use Rattle.crush_permutation.specs.Permutation.{word}
+pub use Rattle.crush_hash.specs.Permutation.{word}
 use Rattle.crush_types.specs.declared.ItemId.{ItemId}
 use Rattle.crush_types.specs.declared.Weight.{Weight}
 use Rattle.crush_types.specs.declared.Kind.{Kind}

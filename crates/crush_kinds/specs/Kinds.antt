@@ -6,7 +6,7 @@ use Rattle.crush_hash.specs.Hash.{hash3, hash4}
 use Rattle.crush_ln.specs.Log.{delay}
 use Rattle.crush_types.specs.declared.ItemId.{ItemId}
 use Rattle.crush_kinds.specs.Bucket.{WeightedItem, word, item_at, weight_at, weight_within}
-use Rattle.crush_permutation.specs.Permutation.{permutation}
+use Rattle.crush_hash.specs.Permutation.{permutation}
 
 -- ---- uniform: the item at a place of the permutation
 

@@ -4,7 +4,7 @@ use Rattle.crush_types.specs.declared.ItemId.{ItemId}
 use Rattle.crush_types.specs.declared.Kind.{Kind}
 use Rattle.crush_types.specs.declared.Kind.TheVariants.{Uniform, List, Tree, Straw2}
 use Rattle.crush_kinds.specs.Bucket.{BucketView}
-use Rattle.crush_permutation.specs.Permutation.{PermView, Remembered, asked}
+use Rattle.crush_hash.specs.Permutation.{PermView, Remembered, asked}
 use Rattle.crush_kinds.specs.Kinds.{uniform_pick, list_pick, tree_pick, straw2_pick}
 
 -- what a bucket would pick if it were of this kind

@@ -4,14 +4,14 @@ ghost use Rattle.std.specs.Prelude.{◌≡◌, ℕ, ◌<◌, ◌≤◌, ◌^◌,
 ghost use Rattle.crush_kinds.specs.Bucket.{HasEqualWeights, IsItemOf, item_at, total_weight};
 ghost use Rattle.crush_kinds.specs.Pick.{pick, perm_of, after_pick};
 ghost use Rattle.crush_kinds.specs.Private.Draw.{IsDrawOf, kind_of};
-ghost use Rattle.crush_permutation.specs.Permutation.{no_id};
+ghost use Rattle.crush_hash.specs.Permutation.{no_id};
 
 use crate::eight::pick_side_by_side;
 use crate::list::{list_item, sums_of};
 use crate::straw2::straw2_item;
 use crate::tree::{Tree, TreeRef};
 use crate::uniform::asked_place;
-use crush_permutation::{Perm, Perms};
+use crush_hash::{Perm, Perms};
 use crush_types::{ItemId, Kind, Weight};
 use std::alloc::{AllocError, Global};
 use std::marker::Model;

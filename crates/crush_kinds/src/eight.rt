@@ -2,7 +2,7 @@
 
 ghost use Rattle.std.specs.Prelude.{◌<◌, ℕ, IfSome, slice_index, slice_index_or};
 ghost use Rattle.crush_kinds.specs.Eight.{IsPickedBy};
-ghost use Rattle.crush_permutation.specs.Permutation.{no_id};
+ghost use Rattle.crush_hash.specs.Permutation.{no_id};
 
 use crate::any::AnyBucket;
 use crate::uniform_lanes::pick_uniforms;

@@ -7,7 +7,7 @@ ghost use Rattle.crush_kinds.specs.Laws.{IsGreatest, NonePasses};
 ghost use Rattle.crush_kinds.specs.Pick.{pick};
 ghost use Rattle.crush_kinds.specs.Pickable.{pickable, IsWeighed};
 
-use crush_permutation::laws::permutation_has_each_place;
+use crush_hash::laws::permutation_has_each_place;
 use crush_types::Kind;
 
 /// What is found is the greatest number below n that passes; where nothing is found, no number

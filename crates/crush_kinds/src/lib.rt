@@ -25,7 +25,7 @@ mod walks;
 
 pub use any::AnyBucket;
 pub use by_weight::{picks_by_weight, without_weights};
-pub use crush_permutation::Perm;
+pub use crush_hash::Perm;
 pub use eight::{is_side_by_side, pick_side_by_side};
 pub use of_kind::{ListBucket, Straw2Bucket, TreeBucket, UniformBucket};
 pub use picker::Picker;

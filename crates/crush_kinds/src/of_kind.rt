@@ -5,7 +5,7 @@ ghost use Rattle.crush_kinds.specs.Bucket.{HasEqualWeights, total_weight};
 
 use crate::any::AnyBucket;
 use crate::picker::Picker;
-use crush_permutation::Perm;
+use crush_hash::Perm;
 use crush_types::{ItemId, Kind, Weight};
 use std::alloc::{AllocError, Global};
 use std::marker::Model;

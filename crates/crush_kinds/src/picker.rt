@@ -3,9 +3,9 @@
 ghost use Rattle.std.specs.Prelude.{◌≡◌, ℕ, ◌<◌, slice_index, slice_index_or};
 ghost use Rattle.crush_kinds.specs.Bucket.{BucketView, IsItemOf};
 ghost use Rattle.crush_kinds.specs.Pick.{pick, perm_of, after_pick};
-ghost use Rattle.crush_permutation.specs.Permutation.{no_id};
+ghost use Rattle.crush_hash.specs.Permutation.{no_id};
 
-use crush_permutation::Perm;
+use crush_hash::Perm;
 use crush_types::ItemId;
 
 /// A bucket that has items, of which it picks one.

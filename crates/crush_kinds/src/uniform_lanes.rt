@@ -4,11 +4,11 @@ ghost use Rattle.std.specs.Prelude.{◌≡◌, ◌<◌, ℕ, IfSome, length, sli
 ghost use Rattle.crush_kinds.specs.Bucket.{IsItemOf, item_at};
 ghost use Rattle.crush_kinds.specs.Eight.{IsPickedBy};
 ghost use Rattle.crush_kinds.specs.Private.Asked.{IsAsked};
-ghost use Rattle.crush_permutation.specs.Permutation.{no_id};
+ghost use Rattle.crush_hash.specs.Permutation.{no_id};
 
 use crate::any::AnyBucket;
 use crate::uniform::asked_place;
-use crush_permutation::eight_members;
+use crush_hash::eight_members;
 use crush_types::{ItemId, Kind};
 
 /// The places up to which eight buckets are asked at once. A later one takes more hashes, and is

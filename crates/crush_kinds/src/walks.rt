@@ -4,7 +4,7 @@ ghost use Rattle.std.specs.Prelude.{◌≡◌, ◌<◌, ◌+◌, ℕ, IfSome, sl
 ghost use Rattle.crush_kinds.specs.Bucket.{word};
 ghost use Rattle.crush_kinds.specs.Eight.{IsPickedBy};
 ghost use Rattle.crush_kinds.specs.Private.Walks.{IsNode, IsOnWay, GoesOn, IsPickAt};
-ghost use Rattle.crush_permutation.specs.Permutation.{no_id};
+ghost use Rattle.crush_hash.specs.Permutation.{no_id};
 
 use crate::any::AnyBucket;
 use crate::tree::TreeRef;

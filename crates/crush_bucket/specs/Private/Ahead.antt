@@ -3,7 +3,7 @@ use Rattle.std.specs.Prelude.{◌≡◌, ℕ, ◌<◌, ◌≤◌, ◌^◌, List,
 use Rattle.crush_types.specs.declared.ItemId.{ItemId}
 use Rattle.crush_types.specs.declared.Kind.TheVariants.{Uniform}
 use Rattle.crush_kinds.specs.Bucket.{BucketView}
-use Rattle.crush_permutation.specs.Permutation.{no_id}
+use Rattle.crush_hash.specs.Permutation.{no_id}
 use Rattle.crush_bucket.specs.Ahead.{ArePicks}
 use Rattle.crush_bucket.specs.Tables.{TypedBucket, TablesView, bucket_at, no_bucket}
 use Rattle.crush_bucket.specs.declared.scratch.Step.{Step}

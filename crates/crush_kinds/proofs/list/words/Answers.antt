@@ -1,5 +1,5 @@
 use Rattle.std.proofs.Common.{rules, add-zero}
-use Rattle.crush_permutation.proofs.Lanes.{below_eight}
+use Rattle.crush_hash.proofs.MemberLanes.{below_eight}
 use Rattle.crush_kinds.proofs.list.words.Goals as goal
 
 pub returns : goal.returns

@@ -2,7 +2,7 @@ use Rattle.std.proofs.Common.{◌≡◌, ◌≤◌, slice_index_or, inl, inr, su
 use Rattle.std.proofs.Math.Nat.{eq-or-lt_of_le}
 use Rattle.std.proofs.lemmas.List.{get_or_default, length-set}
 use Rattle.crush_kinds.specs.Private.Asked.{IsAsked}
-use Rattle.crush_permutation.specs.Permutation.{no_id}
+use Rattle.crush_hash.specs.Permutation.{no_id}
 use Rattle.crush_kinds.proofs.uniform_lanes.asked.Goals as goal
 
 pub loop-lane-preserved : goal.loop-lane-preserved

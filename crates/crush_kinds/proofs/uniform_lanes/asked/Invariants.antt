@@ -1,6 +1,6 @@
 use Rattle.std.proofs.Common.{◌≡◌, ℕ, ◌<◌, length, slice_index, slice_index_or}
 use Rattle.crush_kinds.specs.Private.Asked.{IsAsked}
-use Rattle.crush_permutation.specs.Permutation.{no_id}
+use Rattle.crush_hash.specs.Permutation.{no_id}
 use Rattle.crush_kinds.proofs.uniform_lanes.asked.Given as goal
 
 abbrev pub invariant-loop-lane : goal.invariant-loop-lane

@@ -2,8 +2,8 @@ use Rattle.std.proofs.Common.{◌≡◌, ℕ, slice_index, slice_index_or, subst
 use Rattle.std.proofs.lemmas.List.{get_or_default, length-set}
 use Rattle.crush_types.specs.declared.ItemId.{ItemId}
 use Rattle.crush_kinds.specs.Bucket.{item_at, IsItemOf}
-use Rattle.crush_permutation.specs.Permutation.{no_id}
-use Rattle.crush_permutation.proofs.Lanes.{more_set}
+use Rattle.crush_hash.specs.Permutation.{no_id}
+use Rattle.crush_hash.proofs.MemberLanes.{more_set}
 use Rattle.crush_kinds.proofs.uniform_lanes.items_of.Goals as goal
 
 pub item-requires : goal.item-requires

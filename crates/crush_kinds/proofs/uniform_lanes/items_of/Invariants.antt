@@ -1,6 +1,6 @@
 use Rattle.std.proofs.Common.{◌≡◌, ℕ, ◌<◌, length, slice_index, slice_index_or}
 use Rattle.crush_kinds.specs.Bucket.{item_at, IsItemOf}
-use Rattle.crush_permutation.specs.Permutation.{no_id}
+use Rattle.crush_hash.specs.Permutation.{no_id}
 use Rattle.crush_kinds.proofs.uniform_lanes.items_of.Given as goal
 
 abbrev pub invariant-loop-lane : goal.invariant-loop-lane

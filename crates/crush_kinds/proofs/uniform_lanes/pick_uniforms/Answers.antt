@@ -5,7 +5,7 @@ use Rattle.crush_kinds.specs.Eight.{IsPickedBy}
 use Rattle.crush_kinds.specs.Kinds.{uniform_pick}
 use Rattle.crush_kinds.specs.Pick.{pick}
 use Rattle.crush_kinds.specs.Private.Asked.{IsAsked}
-use Rattle.crush_permutation.specs.Permutation.{permutation, no_id}
+use Rattle.crush_hash.specs.Permutation.{permutation, no_id}
 use Rattle.crush_kinds.proofs.uniform_lanes.pick_uniforms.Goals as goal
 
 -- the item at the member that an attempt asks for is what a uniform bucket picks

@@ -7,7 +7,7 @@ use Rattle.std.proofs.lemmas.List.{get_or_default, length-set}
 use Rattle.crush_kinds.specs.Bucket.{word}
 use Rattle.crush_kinds.specs.Private.Walks.{tree_height, IsOnWay}
 use Rattle.crush_kinds.proofs.Ways.{way_begins}
-use Rattle.crush_permutation.proofs.Lanes.{more_set}
+use Rattle.crush_hash.proofs.MemberLanes.{more_set}
 use Rattle.crush_kinds.proofs.walks.begin.Goals as goal
 
 -- what `max` answers

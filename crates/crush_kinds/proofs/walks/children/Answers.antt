@@ -2,7 +2,7 @@ use Rattle.std.proofs.Common.{◌≡◌, ℕ, slice_index, slice_index_or, subst
 use Rattle.std.proofs.lemmas.List.{get_or_default, length-set}
 use Rattle.crush_kinds.specs.Bucket.{BucketView}
 use Rattle.crush_kinds.specs.Private.Walks.{GoesOn}
-use Rattle.crush_permutation.proofs.Lanes.{more_set}
+use Rattle.crush_hash.proofs.MemberLanes.{more_set}
 use Rattle.crush_kinds.proofs.walks.children.Goals as goal
 
 pub loop-lane-preserved : goal.loop-lane-preserved

@@ -3,8 +3,8 @@ use Rattle.std.proofs.lemmas.List.{get_or_default, length-set}
 use Rattle.crush_types.specs.declared.ItemId.{ItemId}
 use Rattle.crush_kinds.specs.Bucket.{BucketView}
 use Rattle.crush_kinds.specs.Private.Walks.{IsPickAt}
-use Rattle.crush_permutation.specs.Permutation.{no_id}
-use Rattle.crush_permutation.proofs.Lanes.{more_set}
+use Rattle.crush_hash.specs.Permutation.{no_id}
+use Rattle.crush_hash.proofs.MemberLanes.{more_set}
 use Rattle.crush_kinds.proofs.walks.items_at.Goals as goal
 
 pub loop-lane-preserved : goal.loop-lane-preserved

@@ -1,6 +1,6 @@
 use Rattle.std.proofs.Common.{◌≡◌, ℕ, ◌<◌, length, slice_index, slice_index_or}
 use Rattle.crush_kinds.specs.Private.Walks.{IsPickAt}
-use Rattle.crush_permutation.specs.Permutation.{no_id}
+use Rattle.crush_hash.specs.Permutation.{no_id}
 use Rattle.crush_kinds.proofs.walks.items_at.Given as goal
 
 abbrev pub invariant-loop-lane : goal.invariant-loop-lane

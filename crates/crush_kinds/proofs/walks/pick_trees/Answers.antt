@@ -3,8 +3,8 @@ use Rattle.std.proofs.lemmas.List.{get_or_default}
 use Rattle.crush_kinds.specs.declared.any.AnyBucket.{AnyBucket}
 use Rattle.crush_kinds.specs.Bucket.{BucketView}
 use Rattle.crush_kinds.specs.Eight.{IsPickedBy}
-use Rattle.crush_permutation.specs.Permutation.{no_id}
-use Rattle.crush_permutation.proofs.Lanes.{below_eight}
+use Rattle.crush_hash.specs.Permutation.{no_id}
+use Rattle.crush_hash.proofs.MemberLanes.{below_eight}
 use Rattle.crush_kinds.proofs.walks.pick_trees.Goals as goal
 
 -- a tree is the bucket from which it was taken

@@ -2,7 +2,7 @@ use Rattle.std.proofs.Common.{◌≡◌, ℕ, ◌+◌, ◌-◌, slice_index, sli
 use Rattle.crush_hash.specs.Hash.{hash4}
 use Rattle.crush_kinds.specs.Bucket.{word}
 use Rattle.crush_kinds.specs.Private.Walks.{IsOnWay}
-use Rattle.crush_permutation.proofs.Lanes.{below_eight}
+use Rattle.crush_hash.proofs.MemberLanes.{below_eight}
 use Rattle.crush_kinds.proofs.Ways.{way_node}
 use Rattle.crush_kinds.proofs.walks.walk_down.Goals as goal
 

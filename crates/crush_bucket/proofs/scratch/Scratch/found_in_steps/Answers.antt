@@ -1,6 +1,6 @@
 use Rattle.std.proofs.Common.{◌≡◌, ◌<◌, [], slice_index, slice_index_or, arith}
 use Rattle.std.specs.Prelude.{All}
-use Rattle.crush_permutation.specs.Permutation.{no_id}
+use Rattle.crush_hash.specs.Permutation.{no_id}
 use Rattle.crush_bucket.specs.Private.Ahead.{HasPick, IsStep}
 use Rattle.crush_bucket.specs.Ahead.{IsPick}
 use Rattle.crush_bucket.specs.declared.scratch.Step.{Step}

@@ -2,8 +2,8 @@ use Rattle.std.proofs.Common.{◌≡◌, ℕ, ◌<◌, slice_index, slice_index_
 use Rattle.std.proofs.lemmas.Grind.{get_or_default_zero}
 use Rattle.std.proofs.lemmas.List.{length-set}
 use Rattle.crush_kinds.specs.Eight.{IsPickedBy}
-use Rattle.crush_permutation.specs.Permutation.{no_id}
-use Rattle.crush_permutation.proofs.Lanes.{more_set}
+use Rattle.crush_hash.specs.Permutation.{no_id}
+use Rattle.crush_hash.proofs.MemberLanes.{more_set}
 use Rattle.crush_bucket.specs.Ahead.{ArePicks}
 use Rattle.crush_bucket.specs.Tables.{bucket_at}
 use Rattle.crush_bucket.proofs.Ahead.{lane_is, if_some}

@@ -3,8 +3,8 @@ use Rattle.std.proofs.lemmas.Simd.{get_or-replicate}
 use Rattle.std.proofs.lemmas.List.{length-set}
 use Rattle.crush_types.specs.declared.ItemId.{ItemId}
 use Rattle.crush_kinds.specs.Pick.{pick}
-use Rattle.crush_permutation.specs.Permutation.{no_id}
-use Rattle.crush_permutation.proofs.Lanes.{more_set}
+use Rattle.crush_hash.specs.Permutation.{no_id}
+use Rattle.crush_hash.proofs.MemberLanes.{more_set}
 use Rattle.crush_kinds.proofs.any.AnyBucket.pick_eight.Goals as goal
 
 pub returns-in-Some-clause-picked : goal.returns-in-Some-clause-picked
