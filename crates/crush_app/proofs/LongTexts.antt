@@ -2,7 +2,7 @@
 use Rattle.std.proofs.Common.{◌≡◌, ◌∙◌, ◌↔◌, ap, sym, arith, ℕ, ◌<◌, inl, inr, List, [], ◌∷◌, length, take, slice_get, Option, Some, None, option_map, IsSomeAnd}
 use Rattle.crush_map.specs.declared.fault.FaultCode.{FaultCode}
 use Rattle.crush_map.specs.Faults.{or_else}
-use Rattle.crush_words.specs.Words.{Word, words}
+use Rattle.crush_grammar.specs.Words.{Word, words}
 use Rattle.crush_grammar.specs.Fronts.{Breaks, HasCode, last_line}
 use Rattle.crush_grammar.specs.declared.code.TextCode.{TextCode}
 use Rattle.crush_grammar.specs.declared.code.TextCode.TheVariants.{X1, X2, X3, X4, X5, X6, X7, Map}

@@ -5,7 +5,7 @@ use Rattle.std.proofs.lemmas.Option.{slice_get-get_or}
 use Rattle.std.proofs.lemmas.List.{append-nil}
 use Rattle.std.proofs.lemmas.Bool.Decides.{nat_tests}
 use Rattle.crush_grammar.proofs.Written.{is_written, declares_from}
-use Rattle.crush_words.specs.Words.{Word}
+use Rattle.crush_grammar.specs.Words.{Word}
 use Rattle.crush_grammar.specs.Syntax.{Declares}
 use Rattle.crush_grammar.specs.Fronts.{is, IsWhole, HasCode, word, BeginsOne, FrontDeclares, last_line, Breaks}
 use Rattle.crush_grammar.specs.Automaton.{State, reading, step, text, to, begun, at_end, device_at}

@@ -4,8 +4,8 @@ use Rattle.std.specs.Prelude.{codes}
 use Rattle.crush_grammar.proofs.IsRead.{is_read}
 use Rattle.crush_grammar.proofs.Written.{is_written}
 use Rattle.crush_map.specs.WeightText.{weight_of}
-use Rattle.crush_words.specs.Words.{Word}
-use Rattle.crush_words.specs.Numbers.{number_of, integer_of}
+use Rattle.crush_grammar.specs.Words.{Word}
+use Rattle.crush_grammar.specs.Numbers.{number_of, integer_of}
 use Rattle.crush_grammar.specs.Sayings.{name_of, type_of, tunable_of, alg_of, hash_of, rule_id_of, erasure_of, firstn_of, setting_of}
 use Rattle.crush_grammar.specs.Fronts.{is, is_token, word, one_half, IsStraw, IsClassOfTake, IsChooseArgs, IsNoWeight, HasCode, last_line}
 use Rattle.crush_grammar.specs.Automaton.{State, Move, reading, step, text, with_item, with_step, named, to, wrong, on, first, begun_bucket, begun, in_lines, plain, in_items, in_pos, in_steps, at_max, action}

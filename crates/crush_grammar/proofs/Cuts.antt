@@ -2,8 +2,8 @@
 use Rattle.std.proofs.Common.{ℤ, sym, ◌≡◌, ◌∙◌, ℕ, ◌⊎◌, inl, inr, List, [], ◌∷◌, ◌++◌, Option, Some, None, Bool, true, false, refl, ap, if◌then◌else◌}
 use Rattle.std.specs.Prelude.{codes}
 use Rattle.crush_map.specs.WeightText.{weight_of}
-use Rattle.crush_words.specs.Words.{Word}
-use Rattle.crush_words.specs.Numbers.{number_of, integer_of}
+use Rattle.crush_grammar.specs.Words.{Word}
+use Rattle.crush_grammar.specs.Numbers.{number_of, integer_of}
 use Rattle.crush_grammar.specs.Sayings.{name_of, tunable_of, alg_of, hash_of, rule_id_of, erasure_of, firstn_of, setting_of}
 use Rattle.crush_grammar.specs.Fronts.{is, last_line}
 use Rattle.crush_grammar.specs.Automaton.{State, Move, Reading, reading, step, give, with_item, to, wrong, on, begun, in_lines, plain, in_items, in_pos, in_steps, at_max, action, device_at}

@@ -1,6 +1,6 @@
 -- What a text without a fault of form is, and what one with a fault is.
 use Rattle.std.proofs.Common.{◌≡◌, List, Option, Some, None, MatchOption, sym, ap}
-use Rattle.crush_words.specs.Words.{Word}
+use Rattle.crush_grammar.specs.Words.{Word}
 use Rattle.crush_grammar.proofs.Breaking.{breaks}
 use Rattle.crush_grammar.proofs.Written.{is_written}
 use Rattle.crush_grammar.specs.Automaton.{text}

@@ -5,8 +5,8 @@ use Rattle.std.specs.Prelude.{option_map}
 use Rattle.std.proofs.lemmas.List.{append-nil}
 use Rattle.std.proofs.lemmas.Slice.Eq.{bytes_eq-Decides}
 use Rattle.crush_types.specs.declared.Weight.{Weight as MapWeight}
-use Rattle.crush_words.specs.Words.{Word}
-use Rattle.crush_words.specs.Numbers.{number_of, integer_of}
+use Rattle.crush_grammar.specs.Words.{Word}
+use Rattle.crush_grammar.specs.Numbers.{number_of, integer_of}
 use Rattle.crush_grammar.specs.Sayings.{type_of, setting_of}
 use Rattle.crush_grammar.specs.Syntax.{Keyword, Saying, Algorithm, optional, Class, Clause, clause_words, Early, early_words, early_declares, ClassId, class_id_words, Hash, Weight, Pos, Item, item_words, item_declares, Bucket, bucket_words, Action, action_words, action_declares, Step, step_words, Rule, rule_words, Late, late_words, late_declares, Declares}
 use Rattle.crush_grammar.specs.Syntax.Early.{ATunable, ADevice, AType}

@@ -10,3 +10,6 @@ pub mod Whole
 pub mod Unique
 pub mod Forms
 pub mod Names
+mod Scans
+mod Digits
+mod Marks

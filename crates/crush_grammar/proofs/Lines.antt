@@ -4,7 +4,7 @@ use Rattle.std.proofs.lemmas.List.{append-nil}
 use Rattle.crush_grammar.proofs.IsRead.{is_read}
 use Rattle.crush_grammar.proofs.Written.{is_written}
 use Rattle.crush_grammar.proofs.States.{dead}
-use Rattle.crush_words.specs.Words.{Word}
+use Rattle.crush_grammar.specs.Words.{Word}
 use Rattle.crush_grammar.specs.Syntax.{Declares}
 use Rattle.crush_grammar.specs.Fronts.{IsFront, last_line}
 use Rattle.crush_grammar.specs.Automaton.{State, reading, step, text, at_end}

@@ -1,7 +1,7 @@
 -- Reading from a state on.
 use Rattle.std.proofs.Common.{◌≡◌, ◌∙◌, ℕ, Bool, true, List, [], ◌∷◌, ◌++◌, Some, refl, Err, append_assoc, codes}
 use Rattle.std.proofs.lemmas.List.{append-nil}
-use Rattle.crush_words.specs.Words.{Word}
+use Rattle.crush_grammar.specs.Words.{Word}
 use Rattle.crush_grammar.specs.Automaton.{Reading, reading, step, failed, give, begun}
 use Rattle.crush_grammar.specs.Automaton.State.{Between, Dead, Hashes, Items, ItemWord, ItemName, ItemWeight, RuleKind, RuleMin, RuleMax, Taken, Steps, StepWord}
 use Rattle.crush_grammar.specs.Automaton.{with_item}

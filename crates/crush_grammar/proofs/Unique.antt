@@ -4,8 +4,8 @@ use Rattle.std.specs.Prelude.{◌↔◌, codes}
 use Rattle.std.proofs.lemmas.List.{append-nil, take-append-drop}
 use Rattle.std.proofs.lemmas.Slice.Eq.{bytes_eq-Decides}
 use Rattle.crush_map.specs.WeightText.{weight_of}
-use Rattle.crush_words.specs.Words.{Word}
-use Rattle.crush_words.specs.Numbers.{number_of, integer_of}
+use Rattle.crush_grammar.specs.Words.{Word}
+use Rattle.crush_grammar.specs.Numbers.{number_of, integer_of}
 use Rattle.crush_grammar.specs.Sayings.{name_of, type_of, tunable_of, alg_of, hash_of, rule_id_of, erasure_of, firstn_of, setting_of}
 use Rattle.crush_grammar.specs.Syntax.{Declares}
 use Rattle.crush_grammar.specs.Fronts.{is, is_token, IsFront, IsWhole, LeavesAt, HasCode, FrontDeclares, Breaks, last_line}

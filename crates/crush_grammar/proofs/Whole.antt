@@ -1,7 +1,7 @@
 -- Words are of the grammar, or leave it at one place.
 use Rattle.std.proofs.Common.{◌≡◌, ◌∙◌, ℕ, suc, ◌<◌, ◌≤◌, ◌⊎◌, inl, inr, List, ◌++◌, take, drop, Option, Some, None, refl, sym, ap, append_assoc, arith}
 use Rattle.std.proofs.lemmas.List.{take-append-drop, take-take}
-use Rattle.crush_words.specs.Words.{Word}
+use Rattle.crush_grammar.specs.Words.{Word}
 use Rattle.crush_grammar.proofs.Breaking.{breaks}
 use Rattle.crush_grammar.proofs.Written.{is_written}
 use Rattle.crush_grammar.specs.Automaton.{text}

@@ -6,8 +6,8 @@ use Rattle.std.proofs.lemmas.List.{append-nil}
 use Rattle.std.proofs.lemmas.Slice.Eq.{bytes_eq-Decides}
 use Rattle.crush_types.specs.declared.Kind.{Kind}
 use Rattle.crush_map.specs.WeightText.{weight_of}
-use Rattle.crush_words.specs.Words.{Word}
-use Rattle.crush_words.specs.Numbers.{number_of, integer_of}
+use Rattle.crush_grammar.specs.Words.{Word}
+use Rattle.crush_grammar.specs.Numbers.{number_of, integer_of}
 use Rattle.crush_grammar.specs.Sayings.{name_of, type_of, tunable_of, alg_of, hash_of, rule_id_of, erasure_of, firstn_of, setting_of}
 use Rattle.crush_grammar.specs.Syntax.{Keyword, Saying, Algorithm, Name, optional, Class, clause_words, Early, early_words, early_declares, class_id_words, Hash, Weight, Pos, Item, item_words, item_declares, Bucket, Action, action_words, action_declares, Step, step_words, Rule, Late, late_words, late_declares, Declares}
 use Rattle.crush_grammar.specs.Syntax.Early.{ATunable, ADevice, AType}

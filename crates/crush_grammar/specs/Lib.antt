@@ -4,3 +4,5 @@ pub mod Fronts
 pub mod Automaton
 pub mod Codes
 pub mod Private
+pub mod Words
+pub mod Numbers

@@ -5,7 +5,7 @@ use Rattle.crush_types.specs.declared.Kind.{Kind}
 use Rattle.crush_types.specs.declared.Kind.TheVariants.{Straw2}
 use Rattle.crush_types.specs.Kinds.{kind_name, kind_named}
 use Rattle.crush_map.specs.Faults.{is_name_byte, is_reserved}
-use Rattle.crush_words.specs.Words.{Word}
+use Rattle.crush_grammar.specs.Words.{Word}
 use Rattle.crush_grammar.specs.declared.declaration.TunableName.{TunableName}
 use Rattle.crush_grammar.specs.declared.declaration.TunableName.TheVariants as tunables
 use Rattle.crush_grammar.specs.declared.declaration.Setting.{Setting}

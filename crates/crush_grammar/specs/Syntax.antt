@@ -6,8 +6,8 @@
 use Rattle.std.specs.Prelude.{◌≡◌, ℕ, true, false, List, [], ◌∷◌, ◌++◌, map, Option, Some, None, codes, flat_map, option_map}
 use Rattle.crush_types.specs.declared.Kind.{Kind}
 use Rattle.crush_map.specs.WeightText.{weight_of}
-use Rattle.crush_words.specs.Words.{Word}
-use Rattle.crush_words.specs.Numbers.{number_of, integer_of}
+use Rattle.crush_grammar.specs.Words.{Word}
+use Rattle.crush_grammar.specs.Numbers.{number_of, integer_of}
 use Rattle.crush_grammar.specs.Sayings.{name_of, type_of, tunable_of, alg_of, hash_of, rule_id_of, erasure_of, firstn_of, setting_of}
 use Rattle.crush_grammar.specs.declared.declaration.DeclaredItem.{DeclaredItem}
 use Rattle.crush_grammar.specs.declared.declaration.DeclaredStep.{DeclaredStep}

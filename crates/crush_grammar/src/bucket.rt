@@ -15,7 +15,7 @@ use crate::say::{
     alg_of, hash, integer, is, is_token, keyword, name, next, number, out_of_grammar,
 };
 use crush_map::{Kind, Listed, Weight, weight_from_text};
-use crush_words::{Cursor, Name};
+use crate::{Cursor, Name};
 use std::alloc::Global;
 
 /// Reads the name of a bucket.

@@ -1,7 +1,7 @@
 //! Declarations as they are written, with names for numbers and numbers of any size.
 
 use crush_map::{Kind, Listed, Weight};
-use crush_words::Name;
+use crate::Name;
 
 /// The name of a tunable.
 #[derive(Clone, Copy, Debug, PartialEq, Eq)]

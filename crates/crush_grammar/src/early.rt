@@ -8,7 +8,7 @@ ghost use Rattle.crush_grammar.specs.declared.declaration.Declaration.TheVariant
 use crate::declaration::{DeclaredDevice, DeclaredTunable, DeclaredType, TunableName};
 use crate::error::ReadError;
 use crate::say::{is, name, next, number, tunable};
-use crush_words::{Cursor, Name};
+use crate::{Cursor, Name};
 
 /// Reads the name of a tunable.
 #[tactic(auto, using(crate::proofs::States::dead), unfolding(crate::specs::Automaton::step))]

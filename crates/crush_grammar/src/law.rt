@@ -2,7 +2,7 @@
 //! law.
 
 ghost use Rattle.std.specs.Prelude.{◌≡◌, ◌⊎◌, ◌↔◌, ℕ, List, Some, None};
-ghost use Rattle.crush_words.specs.Words.{Word};
+ghost use Rattle.crush_grammar.specs.Words.{Word};
 ghost use Rattle.crush_grammar.specs.Automaton.{text};
 ghost use Rattle.crush_grammar.specs.Fronts.{Breaks, IsWhole, LeavesAt};
 ghost use Rattle.crush_grammar.specs.Syntax.{Declares};

@@ -15,6 +15,12 @@ mod name;
 mod read;
 mod rule;
 mod say;
+mod cursor;
+mod lex;
+mod mark;
+mod word_name;
+mod number;
+mod word;
 
 pub use code::{TextCode, TextFault};
 pub use declaration::{
@@ -27,3 +33,7 @@ pub use law::{
 pub use line::last_line;
 pub use name::code_text;
 pub use read::{Declarations, read_declarations};
+pub use cursor::Cursor;
+pub use word_name::Name;
+pub use number::{integer_from_text, number_from_text};
+pub use word::Word;

@@ -1,10 +1,10 @@
 //! Where a text ends.
 
 ghost use Rattle.std.specs.Prelude.{◌≡◌};
-ghost use Rattle.crush_words.specs.Words.{words};
+ghost use Rattle.crush_grammar.specs.Words.{words};
 ghost use Rattle.crush_grammar.specs.Fronts as spec;
 
-use crush_words::Cursor;
+use crate::Cursor;
 
 /// Finds the line of the last word of a text, or 1.
 pub fn last_line(text: &[u8]) -> usize

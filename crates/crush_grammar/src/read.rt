@@ -1,7 +1,7 @@
 //! Reading the declarations of a text.
 
 ghost use Rattle.std.specs.Prelude.{◌≡◌, ◌≤◌, Some, Err, true, false, codes, length, IfOk, MatchOption};
-ghost use Rattle.crush_words.specs.Words.{words};
+ghost use Rattle.crush_grammar.specs.Words.{words};
 ghost use Rattle.crush_grammar.specs.Fronts as fronts;
 ghost use Rattle.crush_grammar.specs.Fronts.{Breaks};
 ghost use Rattle.crush_grammar.specs.Syntax.{Declares};
@@ -16,7 +16,7 @@ use crate::error::ReadError;
 use crate::rule::declared_rule;
 use crate::say::{is, out_of_grammar, type_of};
 use crush_map::Listed;
-use crush_words::{Cursor, Word};
+use crate::{Cursor, Word};
 use std::alloc::{AllocError, Global};
 
 /// What a text declares up to its first fault of form, and that fault.

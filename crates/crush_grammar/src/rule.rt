@@ -13,7 +13,7 @@ use crate::say::{
     erasure, firstn, integer, is, keyword, name, next, number, out_of_grammar, rule_id, setting,
 };
 use crush_map::Listed;
-use crush_words::{Cursor, Name};
+use crate::{Cursor, Name};
 use std::alloc::Global;
 
 /// Reads the name of a rule.

@@ -4,7 +4,7 @@ ghost use Rattle.std.specs.Prelude.{◌≡◌, ◌∷◌, [], ◌<◌, Ok, Err, 
 ghost use Rattle.std.specs.List.{list_all};
 ghost use Rattle.crush_map.specs.Faults.{is_name_byte};
 ghost use Rattle.crush_map.specs.WeightText.{weight_of};
-ghost use Rattle.crush_words.specs.Numbers as numbers;
+ghost use Rattle.crush_grammar.specs.Numbers as numbers;
 ghost use Rattle.crush_grammar.specs.Fronts as fronts;
 ghost use Rattle.crush_grammar.specs.Private.Leads.{said, out_of_grammar};
 ghost use Rattle.crush_grammar.specs.Sayings as spec;
@@ -13,7 +13,7 @@ use crate::code::{TextCode, TextFault};
 use crate::declaration::{Setting, TunableName};
 use crate::error::ReadError;
 use crush_map::{Kind, all_are_name_bytes, is_reserved};
-use crush_words::{Cursor, Name, Word, integer_from_text, number_from_text};
+use crate::{Cursor, Name, Word, integer_from_text, number_from_text};
 
 /// Returns the error of a word that is not of the grammar, or of the end of a text, on line `line`.
 pub(crate) fn out_of_grammar(line: usize) -> ReadError

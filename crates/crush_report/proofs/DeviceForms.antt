@@ -7,7 +7,7 @@ use Rattle.std.proofs.lemmas.Bool.{cases_Bool}
 use Rattle.std.proofs.lemmas.Bool.Decides.{nat_tests, Decides-and}
 use Rattle.std.proofs.lemmas.Slice.Eq.{bytes_eq-Decides}
 use Rattle.csv.specs.Reading.{default_config, records, strip_bom}
-use Rattle.crush_words.specs.Numbers.{number_of}
+use Rattle.crush_grammar.specs.Numbers.{number_of}
 use Rattle.crush_pool.specs.Changes.{are_valid_changes}
 use Rattle.crush_report.specs.DeviceCsv.{IsChangeRecord, IsDeviceCsv, IsFlag, IsNumber, Says, before, change_of, change_of_fields, change_with, changes_of, changes_under_head, device_changes_of, device_head, flag_of, if_valid, is_head, number_up_to, three_of}
 use Rattle.crush_pool.specs.declared.changes.DeviceChange.{DeviceChange}

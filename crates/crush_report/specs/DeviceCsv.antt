@@ -8,7 +8,7 @@ use Rattle.std.specs.List.{AllPairs, AllZip}
 use Rattle.std.specs.Option.{option_map_or}
 use Rattle.std.specs.Str.{bytes_eq}
 use Rattle.csv.specs.Reading.{default_config, records, strip_bom}
-use Rattle.crush_words.specs.Numbers.{number_of}
+use Rattle.crush_grammar.specs.Numbers.{number_of}
 use Rattle.crush_pool.specs.Changes.{are_valid_changes}
 use Rattle.crush_pool.specs.declared.changes.DeviceChange.{DeviceChange}
 use Rattle.crush_map.specs.declared.limits.TheConstants.{NUMBER_LIMIT}

@@ -10,7 +10,7 @@ use crush_map::limits::NUMBER_LIMIT;
 use crush_pool::limits::CHANGE_LIMIT;
 use crush_pool::{DeviceChange, are_valid_changes};
 use crush_select::FULL;
-use crush_words::number_from_text;
+use crush_grammar::number_from_text;
 use csv::{ByteRecord, Error, ErrorKind, ReaderBuilder};
 use std::alloc::{AllocError, Global};
 

@@ -6,7 +6,7 @@ use Rattle.std.proofs.lemmas.List.Folds.{list_all-append}
 use Rattle.std.specs.Fmt.{decimal, signed_decimal}
 use Rattle.std.specs.List.{list_all}
 use Rattle.crush_map.specs.Faults.{is_name_byte}
-use Rattle.crush_words.specs.Numbers.{is_digit, are_digits, number_from, number_of, integer_of}
+use Rattle.crush_grammar.specs.Numbers.{is_digit, are_digits, number_from, number_of, integer_of}
 use Rattle.crush_text.proofs.Spelt.{IsToken, run_is_token, both}
 
 -- at most so far from 0

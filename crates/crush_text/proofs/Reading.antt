@@ -6,7 +6,7 @@ use Rattle.crush_map.specs.Faults.{or_else, first_fault}
 use Rattle.crush_map.specs.Laws.{IsInOrder}
 use Rattle.crush_map.specs.Map.{Map, IsMap, IsMapOf}
 use Rattle.crush_map.specs.declared.draft.MapDraft.{MapDraft}
-use Rattle.crush_words.specs.Words.{Word, words}
+use Rattle.crush_grammar.specs.Words.{Word, words}
 use Rattle.crush_grammar.specs.Automaton.{Reading, text as read}
 use Rattle.crush_grammar.specs.Fronts.{Breaks, last_line}
 use Rattle.crush_grammar.specs.Syntax.{Declares}

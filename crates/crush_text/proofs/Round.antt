@@ -8,7 +8,7 @@ use Rattle.crush_types.specs.Kinds.{is_straw2}
 use Rattle.crush_map.specs.Mark.{straw2_mark}
 use Rattle.crush_map.specs.Map.{Map, IsMap, IsMapOf}
 use Rattle.crush_map.specs.Sound.{IsTypeAt, IsDeviceAt, IsBucketAt, IsRuleAt}
-use Rattle.crush_words.specs.Words.{Word, words, asks_for_straw2}
+use Rattle.crush_grammar.specs.Words.{Word, words, asks_for_straw2}
 use Rattle.crush_grammar.specs.Syntax.{early_words, early_declares, late_words, late_declares, Text, text_words, text_declares}
 use Rattle.crush_grammar.specs.Fronts.{last_line}
 use Rattle.crush_writing.specs.Canonical.{line, tunable_lines, device_line, type_line, bucket_lines, rule_lines, has_straw2, mark_line, canonical}

@@ -4,7 +4,7 @@ use Rattle.std.proofs.lemmas.Bool.Decides.{nat_tests}
 use Rattle.std.proofs.lemmas.List.Sums.{sum_by-cons}
 use Rattle.std.specs.List.{flat_map, list_all, AllByRecursion}
 use Rattle.crush_map.specs.Faults.{is_name_byte}
-use Rattle.crush_words.specs.Words.{Word, words_from, in_text, starts_name, onto, alone}
+use Rattle.crush_grammar.specs.Words.{Word, words_from, in_text, starts_name, onto, alone}
 use Rattle.crush_grammar.specs.Sayings.{name_of}
 use Rattle.crush_writing.specs.Canonical.{line, inner_line}
 

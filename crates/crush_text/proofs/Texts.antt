@@ -6,7 +6,7 @@ use Rattle.std.proofs.Common.{IfOk}
 use Rattle.crush_map.specs.declared.fault.FaultCode.{FaultCode}
 use Rattle.crush_map.specs.Faults.{or_else, end_fault, first_fault}
 use Rattle.crush_map.specs.Map.{Map, IsMap, IsMapOf}
-use Rattle.crush_words.specs.Words.{Word}
+use Rattle.crush_grammar.specs.Words.{Word}
 use Rattle.crush_grammar.specs.Syntax.{Declares}
 use Rattle.crush_grammar.specs.Fronts.{Breaks, IsWhole, last_line}
 use Rattle.crush_grammar.specs.declared.code.TextCode.TheVariants.{Map as MapCode}

@@ -22,7 +22,7 @@ use Rattle.crush_types.specs.Kinds.{is_straw2, kind_name}
 use Rattle.crush_map.specs.Faults.{is_name, is_name_byte, is_reserved}
 use Rattle.crush_map.specs.Map.{Map}
 use Rattle.crush_map.specs.WeightText.{text_of, weight_of}
-use Rattle.crush_words.specs.Numbers.{number_of, integer_of}
+use Rattle.crush_grammar.specs.Numbers.{number_of, integer_of}
 use Rattle.crush_grammar.specs.Sayings.{name_of, type_of, tunable_of, alg_of, hash_of, rule_id_of, erasure_of, firstn_of, setting_of}
 use Rattle.crush_grammar.specs.Syntax.{Keyword, Saying, Clause, early_words, early_declares, item_words, item_declares, Action, action_declares, step_words, late_words, late_declares}
 use Rattle.crush_grammar.specs.Syntax as syntax

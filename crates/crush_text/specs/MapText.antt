@@ -2,7 +2,7 @@
 use Rattle.std.specs.Prelude.{◌≡◌, ℕ, ◌<◌, ◌≤◌, ◌⊎◌, List, length, Some, None}
 use Rattle.crush_map.specs.Map.{Map, IsMap, IsMapOf}
 use Rattle.crush_map.specs.Faults.{or_else}
-use Rattle.crush_words.specs.Words.{Word, words}
+use Rattle.crush_grammar.specs.Words.{Word, words}
 use Rattle.crush_grammar.specs.Syntax.{Declares}
 use Rattle.crush_grammar.specs.Fronts.{Breaks, last_line}
 use Rattle.crush_text.specs.declared.limits.TheConstants.{TEXT_LIMIT}

@@ -7,7 +7,7 @@ use Rattle.std.specs.Prelude.{ℕ, nat_le, nat_lt, List, [], ◌∷◌, length, 
 use Rattle.crush_map.specs.Faults.{or_else}
 use Rattle.crush_map.specs.Map.{Map}
 use Rattle.crush_map.specs.declared.draft.MapDraft.{MapDraft}
-use Rattle.crush_words.specs.Words.{Word, words}
+use Rattle.crush_grammar.specs.Words.{Word, words}
 use Rattle.crush_grammar.specs.Automaton.{Reading, text as read}
 use Rattle.crush_grammar.specs.Fronts.{last_line}
 use Rattle.crush_grammar.specs.declared.code.TextCode.TheVariants.{X7}

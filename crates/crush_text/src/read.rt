@@ -1,7 +1,7 @@
 //! Reading a text as a map.
 
 ghost use Rattle.std.specs.Prelude.{IfOk, IfErr, MatchOption};
-ghost use Rattle.crush_words.specs.Words.{words};
+ghost use Rattle.crush_grammar.specs.Words.{words};
 ghost use Rattle.crush_grammar.specs.Fronts.{Breaks};
 ghost use Rattle.crush_grammar.specs.Syntax.{Declares};
 ghost use Rattle.crush_text.specs.MapText.{IsTextOf, HasFirstFault, IsShort, IsRefusedFor};

@@ -4,7 +4,7 @@ use Rattle.std.specs.Char.{is_ascii}
 use Rattle.std.specs.List.{list_all}
 use Rattle.matchit.specs.Params.{walk, named}
 use Rattle.matchit.specs.Router.{RouteOf}
-use Rattle.crush_words.specs.Numbers.{number_of}
+use Rattle.crush_grammar.specs.Numbers.{number_of}
 use Rattle.tenant_core.specs.declared.route.Methods.{Methods}
 
 -- a path with the row of its route

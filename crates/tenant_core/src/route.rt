@@ -12,7 +12,7 @@ use crate::queries::Query;
 use crate::request::Action;
 use crate::router::Target;
 use crush_map::Text;
-use crush_words::number_from_text;
+use crush_grammar::number_from_text;
 use std::alloc::Global;
 use tenant_messages::{Problem, Refusal, read_value, text_of};
 use tenant_picks::picks;

@@ -1,7 +1,7 @@
 //! Words, their lines, and the numbers that they say.
 
 use crate::same::{assert_same, assert_same_in};
-use crush_words::{Cursor, integer_from_text, number_from_text};
+use crush_grammar::{Cursor, integer_from_text, number_from_text};
 use std::test::Fail;
 
 #[test]

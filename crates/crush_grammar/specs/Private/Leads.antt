@@ -1,7 +1,7 @@
 -- How the functions that read a text go on from place to place: a means, and no part of what texts
 -- are.
 use Rattle.std.specs.Prelude.{◌≡◌, ◌++◌, ℕ, ⊤, Bool, true, false, List, [], Option, Some, None, Result, Ok, Err}
-use Rattle.crush_words.specs.Words.{Word, Rest}
+use Rattle.crush_grammar.specs.Words.{Word, Rest}
 use Rattle.crush_grammar.specs.Automaton.{State, Reading, reading, failed}
 use Rattle.crush_grammar.specs.declared.code.TextCode.TheVariants.{X1}
 use Rattle.crush_grammar.specs.declared.declaration.Declaration.{Declaration}

@@ -1,6 +1,6 @@
 -- Texts of the form in which no declaration has a fault.
 use Rattle.std.specs.Prelude.{◌≡◌, List, None}
-use Rattle.crush_words.specs.Words.{Word}
+use Rattle.crush_grammar.specs.Words.{Word}
 use Rattle.crush_grammar.specs.Syntax.{Declares}
 use Rattle.crush_grammar.specs.declared.declaration.Declaration.{Declaration}
 use Rattle.crush_text.specs.Judging.{Declared, declared, declared_fault}

@@ -1,5 +1,5 @@
 use Rattle.std.proofs.Common.{◌≡◌, length}
-use Rattle.crush_words.specs.Words.{words}
+use Rattle.crush_grammar.specs.Words.{words}
 use Rattle.crush_grammar.specs.Fronts.{last_line}
 use Rattle.crush_grammar.proofs.line.last_line.Given as goal
 

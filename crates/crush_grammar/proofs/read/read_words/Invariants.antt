@@ -1,5 +1,5 @@
 use Rattle.std.proofs.Common.{◌≡◌, length}
-use Rattle.crush_words.specs.Words.{words}
+use Rattle.crush_grammar.specs.Words.{words}
 use Rattle.crush_grammar.specs.Automaton.{State, text}
 use Rattle.crush_grammar.specs.Private.Leads.{ahead, behind}
 use Rattle.crush_grammar.proofs.read.read_words.Given as goal

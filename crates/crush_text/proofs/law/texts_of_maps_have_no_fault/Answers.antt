@@ -1,4 +1,4 @@
-use Rattle.crush_words.specs.Words.{words}
+use Rattle.crush_grammar.specs.Words.{words}
 use Rattle.crush_text.proofs.Texts.{no_fault_of_map}
 use Rattle.crush_text.proofs.law.texts_of_maps_have_no_fault.Goals as goal
 

@@ -1,6 +1,6 @@
 use Rattle.std.proofs.Common.{◌≡◌, subst}
 use Rattle.crush_map.specs.Map.{IsMapOf}
-use Rattle.crush_words.specs.Words.{words}
+use Rattle.crush_grammar.specs.Words.{words}
 use Rattle.crush_text.specs.Judging.{declared}
 use Rattle.crush_text.proofs.Only.{one_map}
 use Rattle.crush_text.proofs.law.texts_say_one_map.Goals as goal

@@ -1,6 +1,6 @@
 use Rattle.std.proofs.Common.{◌≡◌, ◌∙◌, inl, sym, ap, Some, None}
 use Rattle.crush_map.specs.Faults.{first_fault}
-use Rattle.crush_words.specs.Words.{words}
+use Rattle.crush_grammar.specs.Words.{words}
 use Rattle.crush_text.proofs.Texts.{at_end, end_faulty, says_map, clean_draft}
 use Rattle.crush_text.proofs.read.map_of.Goals as goal
 

@@ -1,5 +1,5 @@
 use Rattle.std.proofs.Common.{sym}
-use Rattle.crush_words.specs.Words.{words}
+use Rattle.crush_grammar.specs.Words.{words}
 use Rattle.crush_text.proofs.Texts.{clean, faulty}
 use Rattle.crush_text.proofs.read.map_of_declarations.Goals as goal
 

@@ -2,8 +2,8 @@
 use Rattle.std.proofs.Common.{◌≡◌, ℕ, ◌==◌, ◌||◌, List, [], ◌∷◌, ◌++◌, Bool, true, false, if◌then◌else◌, refl, ap, sym, ◌∙◌, ◌≢◌, bytes_eq}
 use Rattle.std.proofs.lemmas.Slice.Eq.{bytes_eq-Decides}
 use Rattle.crush_map.specs.Mark.{straw2_mark}
-use Rattle.crush_words.specs.Words.{first_line, asks_for_straw2}
-use Rattle.crush_words.specs.Private.Ends.{ends_line}
+use Rattle.crush_grammar.specs.Words.{first_line, asks_for_straw2}
+use Rattle.crush_grammar.specs.Private.Ends.{ends_line}
 
 -- after the mark, the end of the line decides
 pub asks_by_end : (rest : List ℕ) → asks_for_straw2 (straw2_mark ++ rest) ≡ ends_line rest

@@ -1,7 +1,7 @@
 use Rattle.std.proofs.Common.{arith, ◌<◌, ◌^◌, ◌∙◌}
 use Rattle.crush_map.specs.declared.limits.TheConstants.{DIGIT_LIMIT}
-use Rattle.crush_words.proofs.Digits.{more_below, more_fits, more_value, others_are}
-use Rattle.crush_words.proofs.number.number.Goals as goal
+use Rattle.crush_grammar.proofs.Digits.{more_below, more_fits, more_value, others_are}
+use Rattle.crush_grammar.proofs.number.number.Goals as goal
 
 pub overflow_mul-number : goal.overflow_mul-number
 overflow_mul-number c =

@@ -14,7 +14,7 @@ pub struct Word<'a> {
 }
 
 impl<'a> Model for Word<'a> {
-    ghost use Rattle.crush_words.specs.Words as spec;
+    ghost use Rattle.crush_grammar.specs.Words as spec;
 
     ghost Value = { spec.Word };
 

@@ -2,7 +2,7 @@
 
 ghost use Rattle.std.specs.Prelude.{◌≡◌, ◌<◌, ◌≤◌, ◌^◌, ◌-◌, length, true, IfSome};
 ghost use Rattle.std.specs.List.{list_all};
-ghost use Rattle.crush_words.specs.Numbers as spec;
+ghost use Rattle.crush_grammar.specs.Numbers as spec;
 
 use crush_map::are_digits;
 use crush_map::limits::DIGIT_LIMIT;

@@ -1,7 +1,7 @@
 use Rattle.std.proofs.Common.{◌≡◌, ◌<◌, ◌^◌, drop, true}
 use Rattle.std.specs.List.{list_all}
-use Rattle.crush_words.specs.Numbers as spec
-use Rattle.crush_words.proofs.number.number.Given as goal
+use Rattle.crush_grammar.specs.Numbers as spec
+use Rattle.crush_grammar.proofs.number.number.Given as goal
 
 abbrev pub invariant-loop-byte : goal.invariant-loop-byte
 invariant-loop-byte l = record {

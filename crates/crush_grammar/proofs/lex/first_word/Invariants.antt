@@ -1,6 +1,6 @@
 use Rattle.std.proofs.Common.{◌≡◌, ◌+◌, ◌≤◌, drop, false}
-use Rattle.crush_words.specs.Words.{words_from}
-use Rattle.crush_words.proofs.lex.first_word.Given as goal
+use Rattle.crush_grammar.specs.Words.{words_from}
+use Rattle.crush_grammar.proofs.lex.first_word.Given as goal
 
 -- the bytes from `place` on have the words of all
 abbrev pub invariant-loop-place : goal.invariant-loop-place

@@ -1,8 +1,8 @@
 use Rattle.std.proofs.Common.{◌∙◌, Some, None}
 use Rattle.std.proofs.lemmas.Bool.Decides.{Decides-eqb}
 use Rattle.std.proofs.lemmas.Slice.Eq.{strip_prefix_is}
-use Rattle.crush_words.proofs.Marks.{asks_after, asks_unless}
-use Rattle.crush_words.proofs.mark.asks_for_straw2.Goals as goal
+use Rattle.crush_grammar.proofs.Marks.{asks_after, asks_unless}
+use Rattle.crush_grammar.proofs.mark.asks_for_straw2.Goals as goal
 
 pub returns-in-Some : goal.returns-in-Some
 returns-in-Some c =

@@ -1,7 +1,7 @@
 //! A place in a text that is read word by word.
 
 ghost use Rattle.std.specs.Prelude.{◌≡◌, ◌<◌, ◌∷◌, [], length, MatchOption, IfSome};
-ghost use Rattle.crush_words.specs.Words as spec;
+ghost use Rattle.crush_grammar.specs.Words as spec;
 
 use crate::lex::first_word;
 use crate::mark::asks_for_straw2;
@@ -19,7 +19,7 @@ pub struct Cursor<'a> {
 
 impl<'a> Model for Cursor<'a> {
     ghost use Rattle.std.specs.Prelude.{◌+◌, ◌<◌, ◌^◌, length, false};
-    ghost use Rattle.crush_words.specs.Words as spec;
+    ghost use Rattle.crush_grammar.specs.Words as spec;
 
     ghost Value = { spec.Rest };
 

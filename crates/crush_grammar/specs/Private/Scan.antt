@@ -1,7 +1,7 @@
 -- The end of the first word, as the code finds it.
 use Rattle.std.specs.Prelude.{ℕ, suc, ◌==◌, ◌||◌, Bool, false, not, List, [], ◌∷◌, if◌then◌else◌}
 use Rattle.crush_map.specs.Faults.{is_name_byte}
-use Rattle.crush_words.specs.Words.{is_blank}
+use Rattle.crush_grammar.specs.Words.{is_blank}
 
 -- how many bytes at the front are allowed in names
 abbrev pub run_len : List ℕ → ℕ

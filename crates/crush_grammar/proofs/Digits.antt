@@ -5,7 +5,7 @@ use Rattle.std.proofs.Math.Nat.{pow-le-pow_right}
 use Rattle.std.proofs.lemmas.Grind.{pow_more}
 use Rattle.std.specs.List.{list_all}
 use Rattle.crush_map.specs.declared.limits.TheConstants.{DIGIT_LIMIT}
-use Rattle.crush_words.specs.Numbers.{is_digit, are_digits, number_from}
+use Rattle.crush_grammar.specs.Numbers.{is_digit, are_digits, number_from}
 
 pub more_below : (n d i : ℕ) → n < 10 ^ i → d ≤ 9 → n * 10 + d < 10 ^ (i + 1)
 more_below n d i h k = rw (pow_more 10 i) (omega arith)

@@ -1,8 +1,8 @@
 //! Finding the first word in bytes.
 
 ghost use Rattle.std.specs.Prelude.{◌≡◌, ◌≤◌, ◌<◌, ◌+◌, ◌^◌, ℕ, [], ◌∷◌, length, take, drop, IfSome, MatchOption, true, false};
-ghost use Rattle.crush_words.specs.Private.Scan as scan;
-ghost use Rattle.crush_words.specs.Words as spec;
+ghost use Rattle.crush_grammar.specs.Private.Scan as scan;
+ghost use Rattle.crush_grammar.specs.Words as spec;
 
 use crate::word::Word;
 use crush_map::is_name_byte;

@@ -2,8 +2,8 @@
 use Rattle.std.proofs.Common.{◌≡◌, ℕ, ◌<◌, ◌==◌, List, [], ◌∷◌, take, drop, Bool, true, false, if◌then◌else◌, refl, ap, arith}
 use Rattle.std.proofs.lemmas.Bool.Decides.{nat_tests}
 use Rattle.crush_map.specs.Faults.{is_name_byte}
-use Rattle.crush_words.specs.Words.{words_from, onto, alone}
-use Rattle.crush_words.specs.Private.Scan.{run_len}
+use Rattle.crush_grammar.specs.Words.{words_from, onto, alone}
+use Rattle.crush_grammar.specs.Private.Scan.{run_len}
 
 name_not_lf : (b : ℕ) → is_name_byte b ≡ true → (b == 10) ≡ false
 name_not_lf b e = grind (arith, nat_tests)

@@ -1,8 +1,8 @@
 //! Whether a text asks for straw2.
 
 ghost use Rattle.std.specs.Prelude.{◌≡◌};
-ghost use Rattle.crush_words.specs.Private.Ends.{ends_line};
-ghost use Rattle.crush_words.specs.Words as spec;
+ghost use Rattle.crush_grammar.specs.Private.Ends.{ends_line};
+ghost use Rattle.crush_grammar.specs.Words as spec;
 
 use crush_map::straw2_mark;
 

@@ -1,3 +1,0 @@
-mod Scans
-mod Digits
-mod Marks
