@@ -1,9 +1,9 @@
 //! Timing picks from one bucket.
 
 ghost use Rattle.std.specs.Prelude.{◌≡◌};
-ghost use Rattle.crush_kinds.specs.Pick.{perm_of};
+ghost use Rattle.crush_bucket.specs.Pick.{perm_of};
 
-use crush_kinds::{
+use crush_bucket::{
     ListBucket, Perm, Picker, Straw2Bucket, TreeBucket, UniformBucket, can_be_asked,
 };
 use crush_map::{ItemId, Kind, Weight, has_equal_weights};

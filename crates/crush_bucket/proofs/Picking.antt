@@ -3,7 +3,7 @@ use Rattle.std.proofs.Common.{◌≡◌, ◌≢◌, ℕ, ◌<◌, ◌==◌, leng
 use Rattle.std.proofs.lemmas.List.{get_or-map, length-map}
 use Rattle.crush_map.specs.declared.draft.Bucket.{Bucket}
 use Rattle.crush_map.specs.Map.{Map}
-use Rattle.crush_kinds.proofs.Picking.{HasPlaces, pick_item}
+use Rattle.crush_bucket.proofs.KindsPicking.{HasPlaces, pick_item}
 use Rattle.crush_bucket.specs.Private.Laid.{IsLaid}
 use Rattle.crush_bucket.specs.Laws.{PicksBelow, HasNoDeviceBucket}
 use Rattle.crush_bucket.specs.Tables.{TypedBucket, TablesView, tables_of, typed_bucket, no_bucket, bucket_at, type_at, pick_at}

@@ -16,7 +16,7 @@ use Rattle.crush_types.specs.Kinds.{is_uniform}
 use Rattle.crush_types.specs.Weights.{has_equal_weights}
 use Rattle.crush_map.specs.Map.{Map}
 use Rattle.crush_map.specs.Sound as sound
-use Rattle.crush_kinds.specs.Bucket.{BucketView, WeightedItem, item_at, no_item, HasEqualWeights}
+use Rattle.crush_bucket.specs.Bucket.{BucketView, WeightedItem, item_at, no_item, HasEqualWeights}
 use Rattle.crush_bucket.specs.Tables.{TypedBucket, tables_of, typed_bucket, no_bucket, bucket_at, IsBelow}
 use Rattle.crush_bucket.specs.Private.Laid.{IsFit, IsLaid, HasNegativeIds}
 use Rattle.crush_bucket.proofs.Numbered.{has_that_id, position_some, same_id, none_of_device}

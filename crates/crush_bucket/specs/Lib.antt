@@ -2,3 +2,11 @@ pub mod Ahead
 pub mod Laws
 pub mod Private
 pub mod Tables
+pub mod Appended
+pub mod Bucket
+pub mod Eight
+pub mod Kinds
+pub mod KindsLaws
+pub mod Pick
+pub mod Pickable
+pub mod Straw2Laws

@@ -8,8 +8,8 @@ use Rattle.crush_types.specs.declared.Kind.TheVariants.{Uniform}
 use Rattle.crush_map.specs.declared.draft.Bucket.{Bucket}
 use Rattle.crush_map.specs.declared.draft.Tunables.{Tunables}
 use Rattle.crush_map.specs.Map.{Map}
-use Rattle.crush_kinds.specs.Bucket.{BucketView, item_at}
-use Rattle.crush_kinds.specs.Pick.{pick}
+use Rattle.crush_bucket.specs.Bucket.{BucketView, item_at}
+use Rattle.crush_bucket.specs.Pick.{pick}
 -- a bucket and the number of its type
 pub use Rattle.crush_bucket.specs.declared.typed.TypedBucket.{TypedBucket}
 

@@ -4,7 +4,7 @@ ghost use Rattle.crush_map.specs.Map.{Map, IsMap};
 ghost use Rattle.crush_bucket.specs.Laws.{PicksBelow, HasNoDeviceBucket};
 ghost use Rattle.crush_bucket.specs.Tables.{tables_of};
 
-pub use crush_kinds::laws::{
+pub use crate::kinds_laws::{
     a_pick_is_an_item, a_pick_is_pickable, greatest_passes, height_is_least,
 };
 use crush_map::buckets_are_sound;

@@ -6,7 +6,7 @@ ghost use Rattle.crush_bucket.specs.declared.scratch.Step.{Step};
 
 use crate::number::BucketNo;
 use crate::tables::Tables;
-use crush_kinds::AnyBucket;
+use crate::AnyBucket;
 use crush_map::ItemId;
 use crush_hash::Perms;
 use std::alloc::{AllocError, Global};
@@ -87,8 +87,8 @@ impl<'a> Model for Scratch<'a> {
 
 impl<'a> Scratch<'a> {
     ghost use Rattle.std.specs.Prelude.{◌≡◌, ◌<◌, IfOk, IfSome, length};
-    ghost use Rattle.crush_kinds.specs.Bucket.{IsItemOf};
-    ghost use Rattle.crush_kinds.specs.Pick.{pick};
+    ghost use Rattle.crush_bucket.specs.Bucket.{IsItemOf};
+    ghost use Rattle.crush_bucket.specs.Pick.{pick};
     ghost use Rattle.crush_bucket.specs.Tables.{scratch_of};
     ghost use Rattle.crush_bucket.specs.Ahead.{ArePicks, IsPick};
     ghost use Rattle.crush_bucket.specs.Private.Ahead.{IsBucketOf};

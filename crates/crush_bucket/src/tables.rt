@@ -1,7 +1,7 @@
 //! The buckets of a map, ready to be asked.
 
 ghost use Rattle.std.specs.Prelude.{◌≡◌, ◌<◌, ◌<ℤ◌, ◌==◌, ◌^◌, pos, IfOk, IfSome, OnSome, All, length, map};
-ghost use Rattle.crush_kinds.specs.Bucket.{IsItemOf};
+ghost use Rattle.crush_bucket.specs.Bucket.{IsItemOf};
 ghost use Rattle.crush_bucket.specs.Ahead.{ArePicks};
 ghost use Rattle.crush_bucket.specs.Private.Ahead.{IsWidest};
 ghost use Rattle.crush_bucket.specs.Private.Laid.{IsFit};
@@ -11,7 +11,7 @@ use crate::index::index_of;
 use crate::number::{BucketNo, index_place};
 use crate::scratch::Scratch;
 use crate::typed::TypedBucket;
-use crush_kinds::{AnyBucket, pick_side_by_side};
+use crate::{AnyBucket, pick_side_by_side};
 use crush_map::{Bucket, CrushMap, Device, ItemId, Kind, Tunables, Weight, buckets_are_sound};
 use std::alloc::{AllocError, Global};
 use std::marker::Model;

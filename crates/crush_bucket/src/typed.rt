@@ -4,7 +4,7 @@ ghost use Rattle.std.specs.Prelude.{◌≡◌, IfOk};
 ghost use Rattle.crush_bucket.specs.Tables.{typed_bucket};
 ghost use Rattle.crush_bucket.specs.Private.Laid.{IsFit};
 
-use crush_kinds::AnyBucket;
+use crate::AnyBucket;
 use crush_map::Bucket;
 use std::alloc::{AllocError, Global};
 

@@ -12,7 +12,7 @@ use Rattle.crush_types.specs.declared.Weight.{Weight}
 use Rattle.crush_map.specs.declared.draft.Bucket.{Bucket}
 use Rattle.crush_map.specs.Map.{Map}
 use Rattle.crush_map.specs.Sound as sound
-use Rattle.crush_kinds.specs.Bucket.{WeightedItem, item_at, no_item}
+use Rattle.crush_bucket.specs.Bucket.{WeightedItem, item_at, no_item}
 use Rattle.crush_bucket.specs.Tables.{tables_of, bucket_numbered}
 use Rattle.crush_bucket.proofs.Numbered.{none_of_device}
 use Rattle.crush_bucket.proofs.Validity.{sound_at, is_laid, no_declaration}

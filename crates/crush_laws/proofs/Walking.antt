@@ -7,8 +7,8 @@ use Rattle.crush_types.specs.declared.Weight.{Weight}
 use Rattle.crush_types.specs.declared.Kind.{Kind}
 use Rattle.crush_map.specs.declared.draft.Bucket.{Bucket}
 use Rattle.crush_map.specs.Map.{Map}
-use Rattle.crush_kinds.specs.Bucket.{WeightedItem, BucketView, IsItemOf}
-use Rattle.crush_kinds.specs.Pick.{pick}
+use Rattle.crush_bucket.specs.Bucket.{WeightedItem, BucketView, IsItemOf}
+use Rattle.crush_bucket.specs.Pick.{pick}
 use Rattle.crush_bucket.specs.Tables.{tables_of, bucket_at, pick_at, bucket_numbered}
 use Rattle.crush_bucket.proofs.Numbered.{none_of_device, same_id}
 use Rattle.crush_bucket.proofs.Validity.{is_laid}

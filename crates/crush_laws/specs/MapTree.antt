@@ -8,7 +8,7 @@ use Rattle.crush_types.specs.declared.Weight.{Weight}
 use Rattle.crush_types.specs.declared.Kind.{Kind}
 use Rattle.crush_map.specs.Map.{Map}
 use Rattle.crush_map.specs.Sound.{has_device}
-use Rattle.crush_kinds.specs.Bucket.{WeightedItem}
+use Rattle.crush_bucket.specs.Bucket.{WeightedItem}
 use Rattle.crush_bucket.specs.Tables.{tables_of, bucket_numbered}
 
 mutual

@@ -6,7 +6,7 @@ ghost use Rattle.std.specs.Prelude.{◌≡◌, ◌<◌, ◌+◌, ℕ, length, tr
 ghost use Rattle.crush_types.specs.declared.ItemId.{ItemId};
 ghost use Rattle.crush_map.specs.Map.{Map, IsMap};
 ghost use Rattle.crush_map.specs.Sound.{has_item};
-ghost use Rattle.crush_kinds.specs.Bucket.{BucketView};
+ghost use Rattle.crush_bucket.specs.Bucket.{BucketView};
 ghost use Rattle.crush_bucket.specs.Tables.{tables_of, bucket_at};
 ghost use Rattle.crush_select.specs.Reach.{reach, step};
 ghost use Rattle.crush_laws.specs.MapTree.{Tree, IsTreeAt, IsTreeOf, id_of};

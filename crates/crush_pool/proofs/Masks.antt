@@ -6,7 +6,7 @@ use Rattle.std.proofs.Math.Pow.{pow_mono}
 use Rattle.std.proofs.lemmas.Nat.{and_mask, mod_below, pow-add, pow_pos}
 use Rattle.std.proofs.lemmas.Bool.{cases_lt, ltb-true}
 use Rattle.std.proofs.lemmas.Bool.Decides.{nat_tests}
-use Rattle.crush_kinds.specs.Kinds.{height_of}
+use Rattle.crush_bucket.specs.Kinds.{height_of}
 use Rattle.crush_pool.specs.Groups.{mask_of, stable_mod}
 
 -- a k with 2^k at least b, below which no power is

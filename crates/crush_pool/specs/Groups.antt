@@ -2,7 +2,7 @@
 -- `pg_pool_t::calc_pg_masks`).
 use Rattle.std.specs.Prelude.{ℕ, ◌-◌, ◌/◌, ◌^◌, nat_lt, if◌then◌else◌}
 use Rattle.std.specs.Int.Bits.{bit_and}
-use Rattle.crush_kinds.specs.Kinds.{height_of}
+use Rattle.crush_bucket.specs.Kinds.{height_of}
 
 -- 2^k - 1 for the least k such that 2^k is at least b
 abbrev pub mask_of : ℕ → ℕ

@@ -22,7 +22,7 @@ ghost use Rattle.crush_pool.specs.States.{flags_of, reweights};
 
 use crush_choose::laws::traces_ascend;
 use crush_choose::stability::lowering_outside_the_trace_changes_nothing;
-use crush_kinds::laws::height_is_least;
+use crush_bucket::kinds_laws::height_is_least;
 
 /// With the mask for b groups each number falls into one of them, and a number below b is its own
 /// group. Where b is a power of two the group is the remainder.

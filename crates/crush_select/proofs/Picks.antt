@@ -3,8 +3,8 @@ use Rattle.std.proofs.Common.{◌≡◌, ℕ, ◌&&◌, ◌||◌, cond, nat_lt, 
 use Rattle.std.specs.List.{list_any, filter}
 use Rattle.std.proofs.lemmas.Bool.Decides.{nat_tests}
 use Rattle.crush_types.specs.declared.Kind.{Kind}
-use Rattle.crush_kinds.specs.Bucket.{BucketView, WeightedItem}
-use Rattle.crush_kinds.specs.Pickable.{weighs, picks_by_weight, without_weights, pickable_as, pickable}
+use Rattle.crush_bucket.specs.Bucket.{BucketView, WeightedItem}
+use Rattle.crush_bucket.specs.Pickable.{weighs, picks_by_weight, without_weights, pickable_as, pickable}
 
 -- an item weighs at least 1 where it weighs something
 one_weighs : (n : ℕ) → nat_le 1 n ≡ nat_lt 0 n

@@ -8,9 +8,9 @@ use Rattle.std.proofs.lemmas.List.{get_or-replicate}
 use Rattle.std.proofs.lemmas.List.Folds.{list_any_at}
 use Rattle.crush_types.specs.declared.ItemId.{ItemId}
 use Rattle.crush_map.specs.declared.limits.TheConstants.{BUCKET_LIMIT}
-use Rattle.crush_kinds.specs.Bucket.{BucketView, WeightedItem, no_item, item_at, IsItemOf}
-use Rattle.crush_kinds.specs.Pick.{pick}
-use Rattle.crush_kinds.specs.Pickable.{pickable}
+use Rattle.crush_bucket.specs.Bucket.{BucketView, WeightedItem, no_item, item_at, IsItemOf}
+use Rattle.crush_bucket.specs.Pick.{pick}
+use Rattle.crush_bucket.specs.Pickable.{pickable}
 use Rattle.crush_bucket.specs.Tables.{TablesView, bucket_at, type_at, size_at, pick_at, bucket_numbered, HasItemsBelow}
 use Rattle.crush_select.specs.declared.walk.Reached.{Reached}
 use Rattle.crush_select.specs.declared.walk.Reached.TheVariants.{Empty, Wrong, Found}
@@ -18,7 +18,7 @@ use Rattle.crush_select.specs.Reach.{at_item, reach_below, reach}
 use Rattle.crush_select.specs.Marks.{Slot}
 use Rattle.crush_select.specs.Firstn.{has}
 use Rattle.crush_select.specs.Private.Reachable.{any_bucket, has_leaf, can_be_placed, can_have_leaf, can_end_at, can_reach_below, can_reach, marked, IsMarked}
-use Rattle.crush_kinds.proofs.Pickable.{pickable_item}
+use Rattle.crush_bucket.proofs.Pickable.{pickable_item}
 use Rattle.crush_select.proofs.Reaching.{below_of}
 
 -- ---- tests of the items of a list

@@ -17,7 +17,7 @@ use crate::row::{Row, Slot};
 use crate::walk::{Reached, Walk, reach_by};
 use crate::weights::{Weights, is_device_in};
 use crush_bucket::{BucketNo, Scratch, Tables};
-use crush_kinds::laws::a_pick_is_pickable;
+use crush_bucket::kinds_laws::a_pick_is_pickable;
 use crush_map::ItemId;
 
 /// The parameters of a call of `choose_firstn`.

@@ -2,7 +2,7 @@
 
 ghost use Rattle.std.specs.Prelude.{◌≡◌, ℕ, ◌<◌, ◌+◌, ◌||◌, ◌&&◌, nat_le, length};
 ghost use Rattle.std.specs.List.{list_any};
-ghost use Rattle.crush_kinds.specs.Pickable.{pickable};
+ghost use Rattle.crush_bucket.specs.Pickable.{pickable};
 ghost use Rattle.crush_bucket.specs.Tables.{bucket_at, bucket_numbered};
 ghost use Rattle.crush_select.specs.Private.Reachable as spec;
 ghost use Rattle.crush_select.specs.Private.Reachable.{IsMarked, can_be_placed, can_end_at, marked};
@@ -12,8 +12,7 @@ use crate::firstn::has;
 use crate::row::Slot;
 use crate::walk::Walk;
 use crate::weights::{Weights, is_device_in};
-use crush_bucket::{BucketNo, Tables};
-use crush_kinds::{picks_by_weight, without_weights};
+use crush_bucket::{BucketNo, Tables, picks_by_weight, without_weights};
 use crush_map::limits::BUCKET_LIMIT;
 use crush_map::{ItemId, Weight};
 

@@ -1,15 +1,14 @@
 //! Worked rows, picks beside their plain forms, tables and scratches of a map.
 
 ghost use Rattle.std.specs.Prelude.{◌≡◌, ◌<◌, ◌^◌, length};
-ghost use Rattle.crush_kinds.specs.Pick.{perm_of};
+ghost use Rattle.crush_bucket.specs.Pick.{perm_of};
 ghost use Rattle.crush_bucket.specs.Tables.{scratch_of};
 
 use crate::drafts::{ONE, SOUND, Short, draft, entries};
 use crate::plain;
 use crate::same::{assert_same, assert_same_at};
 use Kind::{List, Straw2, Tree, Uniform};
-use crush_bucket::{Scratch, Tables};
-use crush_kinds::{AnyBucket, Perm, can_be_asked};
+use crush_bucket::{AnyBucket, Perm, Scratch, Tables, can_be_asked};
 use crush_map::{CrushMap, ItemId, Kind, Weight, has_equal_weights};
 use std::alloc::{AllocError, Global};
 use std::process::Abort;

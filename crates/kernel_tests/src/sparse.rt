@@ -4,7 +4,7 @@ use crate::buckets::{next, random_id};
 use crate::drafts::{ONE, entries};
 use crate::plain;
 use crate::same::assert_same;
-use crush_kinds::{ListBucket, Perm, Picker, TreeBucket, UniformBucket, can_be_asked};
+use crush_bucket::{ListBucket, Perm, Picker, TreeBucket, UniformBucket, can_be_asked};
 use crush_map::{ItemId, has_equal_weights};
 use std::alloc::{AllocError, Global};
 use std::process::Abort;

@@ -7,7 +7,7 @@ use Rattle.std.proofs.lemmas.Bool.Decides.{Decides-and, Decides-by_and, Decides-
 use Rattle.std.proofs.lemmas.Int.{ints}
 use Rattle.serde_json.specs.Data.{Data}
 use Rattle.serde_json.specs.Find.{as_str}
-use Rattle.crush_kinds.specs.Bucket.{BucketView, WeightedItem, total_weight, HasEqualWeights}
+use Rattle.crush_bucket.specs.Bucket.{BucketView, WeightedItem, total_weight, HasEqualWeights}
 use Rattle.crush_types.specs.Kinds.{is_uniform, kind_name, kind_named}
 use Rattle.crush_types.proofs.Names.{kind_of_name, name_of_kind}
 use Rattle.crush_types.specs.Weights.{has_equal_weights}

@@ -4,8 +4,8 @@ use Rattle.std.specs.Prelude.{ℕ, ◌≡◌, ◌≢◌, ◌≤◌, ◌&&◌, �
 use Rattle.std.specs.List.{All, AllPairs, list_any}
 use Rattle.serde_json.specs.Data.{Data, number, object}
 use Rattle.serde_json.specs.Find.{as_str, of_integer}
-use Rattle.crush_kinds.specs.Bucket.{BucketView, WeightedItem, total_weight, HasEqualWeights}
-use Rattle.crush_kinds.specs.Pick.{pick}
+use Rattle.crush_bucket.specs.Bucket.{BucketView, WeightedItem, total_weight, HasEqualWeights}
+use Rattle.crush_bucket.specs.Pick.{pick}
 use Rattle.crush_types.specs.Kinds.{is_uniform, kind_name, kind_named}
 use Rattle.crush_types.specs.Weights.{has_equal_weights}
 use Rattle.crush_types.specs.declared.ItemId.{ItemId}

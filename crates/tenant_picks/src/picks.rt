@@ -4,8 +4,8 @@
 ghost use Rattle.std.specs.Prelude.{◌≡◌, ◌<◌, ◌^◌, ◌&&◌, ◌||◌, ◌+ℤ◌, IfOk, None, Some, codes, false, int_le, int_lt, length, pos, slice_index_or, true, ℕ, ℤ};
 ghost use Rattle.std.specs.List.{list_any};
 ghost use Rattle.serde_json.specs.View.{view, items_view};
-ghost use Rattle.crush_kinds.specs.Bucket.{total_weight, HasEqualWeights};
-ghost use Rattle.crush_kinds.specs.Pick.{pick};
+ghost use Rattle.crush_bucket.specs.Bucket.{total_weight, HasEqualWeights};
+ghost use Rattle.crush_bucket.specs.Pick.{pick};
 ghost use Rattle.tenant_messages.specs.Json as json;
 ghost use Rattle.tenant_picks.specs.Picks as spec;
 ghost use Rattle.tenant_picks.specs.Private.Seen.{HasItems};
@@ -14,7 +14,7 @@ ghost use Rattle.crush_types.specs.declared.limits.TheConstants.{ID_COUNT};
 ghost use Rattle.tenant_messages.specs.Reply.{reply};
 
 use crate::limits::ATTEMPT_LIMIT;
-use crush_kinds::{AnyBucket, Perm};
+use crush_bucket::{AnyBucket, Perm};
 use crush_map::limits::{ID_COUNT, ITEM_LIMIT, NUMBER_LIMIT, TOTAL_WEIGHT_LIMIT};
 use crush_map::{ItemId, Kind, Weight, has_equal_weights, total_weight};
 use serde_json::{Value, json};
@@ -38,7 +38,7 @@ pub struct AskedBucket {
 
 impl Model for AskedBucket {
     ghost use Rattle.std.specs.Prelude.{◌≡◌};
-    ghost use Rattle.crush_kinds.specs.Bucket.{BucketView, CanBeAsked, HasEqualWeights};
+    ghost use Rattle.crush_bucket.specs.Bucket.{BucketView, CanBeAsked, HasEqualWeights};
     ghost use Rattle.crush_types.specs.declared.Kind.TheVariants.{Uniform};
 
     ghost Value = { BucketView };

@@ -2,7 +2,7 @@
 use Rattle.std.specs.Prelude.{◌≡◌, ℕ, ◌<◌, ◌≤◌, ◌^◌, List, length, slice_index, slice_index_or}
 use Rattle.crush_types.specs.declared.ItemId.{ItemId}
 use Rattle.crush_types.specs.declared.Kind.TheVariants.{Uniform}
-use Rattle.crush_kinds.specs.Bucket.{BucketView}
+use Rattle.crush_bucket.specs.Bucket.{BucketView}
 use Rattle.crush_hash.specs.Permutation.{no_id}
 use Rattle.crush_bucket.specs.Ahead.{ArePicks}
 use Rattle.crush_bucket.specs.Tables.{TypedBucket, TablesView, bucket_at, no_bucket}

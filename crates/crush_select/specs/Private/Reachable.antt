@@ -4,7 +4,7 @@ use Rattle.std.specs.Prelude.{◌≡◌, ℕ, zero, suc, ◌<◌, ◌&&◌, ◌=
 use Rattle.std.specs.List.{list_any}
 use Rattle.crush_types.specs.declared.ItemId.{ItemId}
 use Rattle.crush_map.specs.declared.limits.TheConstants.{BUCKET_LIMIT}
-use Rattle.crush_kinds.specs.Pickable.{pickable}
+use Rattle.crush_bucket.specs.Pickable.{pickable}
 use Rattle.crush_bucket.specs.Tables.{TablesView, bucket_at, type_at, bucket_numbered}
 use Rattle.crush_select.specs.declared.firstn.FirstnCall.{FirstnCall}
 use Rattle.crush_select.specs.declared.indep.IndepCall.{IndepCall}

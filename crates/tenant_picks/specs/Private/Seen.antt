@@ -1,7 +1,7 @@
 -- A table of flags that says which items entries have.
 use Rattle.std.specs.Prelude.{◌≡◌, ◌<◌, ℕ, ℤ, ◌+ℤ◌, pos, Bool, false, List, length, slice_index_or}
 use Rattle.std.specs.List.{list_any}
-use Rattle.crush_kinds.specs.Bucket.{WeightedItem}
+use Rattle.crush_bucket.specs.Bucket.{WeightedItem}
 use Rattle.crush_types.specs.declared.limits.TheConstants.{ID_COUNT}
 use Rattle.tenant_picks.specs.Picks.{is_of_item}
 

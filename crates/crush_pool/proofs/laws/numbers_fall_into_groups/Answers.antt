@@ -2,7 +2,7 @@ use Rattle.std.proofs.Common.{◌≡◌, ℕ, ◌%◌, ◌^◌, ap, sym, ◌∙�
 use Rattle.std.proofs.Math.Nat.{mod-eq_of_lt}
 use Rattle.std.proofs.Math.Pow.{pow-lt}
 use Rattle.std.proofs.lemmas.Nat.{mod_below, pow_pos}
-use Rattle.crush_kinds.specs.Kinds.{height_of}
+use Rattle.crush_bucket.specs.Kinds.{height_of}
 use Rattle.crush_pool.proofs.Masks.{height_is, below_all, kept_group}
 use Rattle.crush_pool.proofs.laws.numbers_fall_into_groups.Goals as goal
 

@@ -3,7 +3,7 @@ use Rattle.std.specs.List.{list_any}
 use Rattle.std.proofs.Math.Seq.{drop-length}
 use Rattle.std.proofs.lemmas.Int.{to_z-of_z}
 use Rattle.std.proofs.lemmas.List.{take_rest}
-use Rattle.crush_kinds.specs.Bucket.{WeightedItem}
+use Rattle.crush_bucket.specs.Bucket.{WeightedItem}
 use Rattle.crush_types.specs.declared.limits.TheConstants.{ID_COUNT}
 use Rattle.tenant_picks.specs.Picks.{is_of_item}
 use Rattle.tenant_picks.proofs.Seen.{none_seen, one_more_distinct, one_more_seen, stands_again}

@@ -1,7 +1,7 @@
 use Rattle.std.proofs.Common.{◌≡◌, ℕ, ◌<◌, slice_index, slice_index_or, refl, ap, ◌∙◌, arith}
 use Rattle.std.proofs.lemmas.Grind.{get_or_default_zero}
 use Rattle.std.proofs.lemmas.List.{length-set}
-use Rattle.crush_kinds.specs.Eight.{IsPickedBy}
+use Rattle.crush_bucket.specs.Eight.{IsPickedBy}
 use Rattle.crush_hash.specs.Permutation.{no_id}
 use Rattle.crush_hash.proofs.MemberLanes.{more_set}
 use Rattle.crush_bucket.specs.Ahead.{ArePicks}

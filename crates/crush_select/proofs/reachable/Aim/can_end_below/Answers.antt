@@ -1,6 +1,6 @@
 use Rattle.std.proofs.Common.{◌≡◌, ◌∙◌, sym, true, false}
-use Rattle.crush_kinds.specs.Bucket.{WeightedItem}
-use Rattle.crush_kinds.specs.Pickable.{picks_by_weight}
+use Rattle.crush_bucket.specs.Bucket.{WeightedItem}
+use Rattle.crush_bucket.specs.Pickable.{picks_by_weight}
 use Rattle.crush_bucket.specs.Tables.{bucket_at, bucket_numbered}
 use Rattle.crush_select.specs.Private.Reachable.{can_be_placed, can_end_at, marked}
 use Rattle.crush_select.proofs.Picks.{any_by_weight, any_without_weights}

@@ -1,6 +1,6 @@
 use Rattle.std.proofs.Common.{◌≡◌, ◌<◌, ◌∙◌, length, arith}
 use Rattle.std.specs.List.{list_any}
-use Rattle.crush_kinds.specs.Pickable.{pickable}
+use Rattle.crush_bucket.specs.Pickable.{pickable}
 use Rattle.crush_bucket.specs.Tables.{bucket_at, bucket_numbered}
 use Rattle.crush_select.specs.Private.Reachable.{can_be_placed, can_end_at, marked}
 use Rattle.crush_select.proofs.WalkEnds.{next_mark, more_marked}

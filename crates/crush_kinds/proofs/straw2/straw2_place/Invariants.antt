@@ -1,6 +1,0 @@
-use Rattle.std.proofs.Common.{◌*◌}
-use Rattle.crush_kinds.specs.Private.Soonest.{IsBest}
-use Rattle.crush_kinds.proofs.straw2.straw2_place.Given as goal
-
-abbrev pub invariant-loop-block : goal.invariant-loop-block
-invariant-loop-block l = IsBest l.items l.x l.r (8 * l.block) l.best

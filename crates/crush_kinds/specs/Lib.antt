@@ -1,9 +1,0 @@
-pub mod Appended
-pub mod Bucket
-pub mod Eight
-pub mod Kinds
-pub mod Laws
-pub mod Pick
-pub mod Pickable
-pub mod Private
-pub mod Straw2Laws
