@@ -5,7 +5,7 @@ ghost use Rattle.crush_writing.specs.Canonical.{canonical};
 ghost use Rattle.crush_pool.specs.Exceptions.{are_pairs};
 ghost use Rattle.crush_cache.specs.Caches.{KeepsNumbers, WasNumberOf};
 ghost use Rattle.crush_content.specs.Contents.{content_of};
-ghost use Rattle.crush_select.specs.Weights.{weights_of};
+ghost use Rattle.crush_choose.specs.Weights.{weights_of};
 ghost use Rattle.crush_pool.specs.States.{flags_of, reweights};
 
 use crate::same::assert_same;
@@ -17,7 +17,7 @@ use crush_pool::{
     DeviceState, DeviceStates, Exceptions, Pair, Placement, Placer, Pool, PoolFault, PoolParts,
     reweights_of,
 };
-use crush_select::{Slot, Weights};
+use crush_choose::{Slot, Weights};
 use crush_text::write_map;
 use std::alloc::{AllocError, Global};
 use std::num::NonZeroUsize;

@@ -4,7 +4,7 @@ use crate::asking::{Answer, Asked, FIRST, How, LONG, ask, assert_placed, cache_f
 use crate::same::assert_same;
 use crush_map::ItemId;
 use crush_pool::{Pair, PoolFault};
-use crush_select::Slot;
+use crush_choose::Slot;
 use std::process::Abort;
 
 /// What is asked after the placement that is kept: how, and of which group.

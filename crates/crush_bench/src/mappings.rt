@@ -3,7 +3,7 @@
 use crate::bucket::Measured;
 use crate::ready::Ready;
 use crate::size::Size;
-use crush_select::Slot;
+use crush_choose::Slot;
 use std::io;
 use std::rt::Clock;
 use std::time::{Duration, Instant};

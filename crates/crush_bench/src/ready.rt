@@ -7,9 +7,8 @@ ghost use Rattle.crush_bucket.specs.Tables.{scratch_of, tables_of};
 use crate::size::Size;
 use crush_bucket::{Scratch, Tables};
 use crush_choose::laws::rules_of_a_map_can_run;
-use crush_choose::{Out, run_rule};
+use crush_choose::{Out, Slot, Weights, run_rule};
 use crush_map::CrushMap;
-use crush_select::{Slot, Weights};
 use std::alloc::{AllocError, Global};
 
 /// A map, and all that running its rules needs.

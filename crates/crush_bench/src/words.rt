@@ -7,7 +7,7 @@ use crate::bucket::Questions;
 use crate::size::Size;
 use crush_map::Kind;
 use crush_map::limits::{ITEM_LIMIT, TRIES_LIMIT};
-use crush_select::limits::SIZE_LIMIT;
+use crush_choose::select_limits::SIZE_LIMIT;
 use std::alloc::{AllocError, Global};
 
 /// What to measure.

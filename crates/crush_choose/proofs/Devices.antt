@@ -5,20 +5,20 @@ use Rattle.std.specs.Bool.{then_some}
 use Rattle.std.proofs.lemmas.Bool.Decides.{nat_tests}
 use Rattle.crush_types.specs.declared.ItemId.{ItemId}
 use Rattle.crush_bucket.specs.Tables.{TablesView, pick_at, type_at, size_at, bucket_numbered}
-use Rattle.crush_select.specs.declared.walk.Reached.{Reached}
-use Rattle.crush_select.specs.declared.walk.Reached.TheVariants.{Empty, Wrong, Found}
-use Rattle.crush_select.specs.declared.firstn.FirstnCall.{FirstnCall}
-use Rattle.crush_select.specs.declared.mark.Mark.{Mark}
-use Rattle.crush_select.specs.Reach.{at_item, reach_below, reach}
-use Rattle.crush_select.specs.Growing.{grown}
-use Rattle.crush_select.specs.Least.{least, or_else}
-use Rattle.crush_select.specs.Weights.{is_device_in}
-use Rattle.crush_select.specs.Marks.{Marks, Slot, placed_by, items_of, leaves_of}
-use Rattle.crush_select.specs.Firstn.{has, leaf_of, firstn_outcome, firstn_try, decided, mark_of, firstn}
+use Rattle.crush_choose.specs.declared.walk.Reached.{Reached}
+use Rattle.crush_choose.specs.declared.walk.Reached.TheVariants.{Empty, Wrong, Found}
+use Rattle.crush_choose.specs.declared.firstn.FirstnCall.{FirstnCall}
+use Rattle.crush_choose.specs.declared.mark.Mark.{Mark}
+use Rattle.crush_choose.specs.Reach.{at_item, reach_below, reach}
+use Rattle.crush_choose.specs.Growing.{grown}
+use Rattle.crush_choose.specs.Least.{least, or_else}
+use Rattle.crush_choose.specs.Weights.{is_device_in}
+use Rattle.crush_choose.specs.Marks.{Marks, Slot, placed_by, items_of, leaves_of}
+use Rattle.crush_choose.specs.Firstn.{has, leaf_of, firstn_outcome, firstn_try, decided, mark_of, firstn}
 use Rattle.crush_choose.specs.Rules.{ChooseCall, firstn_call, put_out, bucket_out, slot_out, step_out}
 use Rattle.crush_bucket.specs.Laws.{HasNoDeviceBucket}
-use Rattle.crush_select.proofs.Least.{least_same}
-use Rattle.crush_select.proofs.Placing.{slots_append}
+use Rattle.crush_choose.proofs.Least.{least_same}
+use Rattle.crush_choose.proofs.Placing.{slots_append}
 
 -- if the walk found an item, it is a device
 abbrev FindsDevice : TablesView → Reached → Type 0

@@ -9,20 +9,20 @@ use Rattle.crush_types.specs.declared.ItemId.{ItemId}
 use Rattle.crush_map.specs.declared.draft.Step.{Step}
 use Rattle.crush_map.specs.declared.draft.Step.TheVariants.{Take, SetChooseTries, SetLeafTries, SetVaryR, SetStable, Choose, Emit}
 use Rattle.crush_bucket.specs.Tables.{TablesView, pick_at, type_at, size_at, bucket_numbered}
-use Rattle.crush_select.specs.declared.walk.Reached.{Reached}
-use Rattle.crush_select.specs.declared.walk.Reached.TheVariants.{Empty, Wrong, Found}
-use Rattle.crush_select.specs.declared.firstn.FirstnCall.{FirstnCall}
-use Rattle.crush_select.specs.declared.indep.IndepCall.{IndepCall}
-use Rattle.crush_select.specs.declared.mark.Mark.{Mark}
-use Rattle.crush_select.specs.declared.mark.Mark.TheVariants.{Skipped, Placed}
-use Rattle.crush_select.specs.Growing.{grown}
-use Rattle.crush_select.specs.Least.{least, or_else}
+use Rattle.crush_choose.specs.declared.walk.Reached.{Reached}
+use Rattle.crush_choose.specs.declared.walk.Reached.TheVariants.{Empty, Wrong, Found}
+use Rattle.crush_choose.specs.declared.firstn.FirstnCall.{FirstnCall}
+use Rattle.crush_choose.specs.declared.indep.IndepCall.{IndepCall}
+use Rattle.crush_choose.specs.declared.mark.Mark.{Mark}
+use Rattle.crush_choose.specs.declared.mark.Mark.TheVariants.{Skipped, Placed}
+use Rattle.crush_choose.specs.Growing.{grown}
+use Rattle.crush_choose.specs.Least.{least, or_else}
 use Rattle.crush_choose.specs.Trace.{with_number, ascending, rule_trace}
-use Rattle.crush_select.specs.Reach.{at_item, reach_below, reach, step}
-use Rattle.crush_select.specs.Weights.{is_device_in}
-use Rattle.crush_select.specs.Marks.{Marks, Slot, placed_by, items_of, leaves_of, item_at, leaf_at}
-use Rattle.crush_select.specs.Firstn.{has, new_leaf, leaf_by, leaf_below, leaf_start, leaf_of, firstn_outcome, firstn_try, decided, mark_of, firstn}
-use Rattle.crush_select.specs.Indep.{taken, leaf_in, indep_leaf_by, indep_leaf, indep_leaf_of, indep_outcome, indep_try, in_round, after_rounds, indep}
+use Rattle.crush_choose.specs.Reach.{at_item, reach_below, reach, step}
+use Rattle.crush_choose.specs.Weights.{is_device_in}
+use Rattle.crush_choose.specs.Marks.{Marks, Slot, placed_by, items_of, leaves_of, item_at, leaf_at}
+use Rattle.crush_choose.specs.Firstn.{has, new_leaf, leaf_by, leaf_below, leaf_start, leaf_of, firstn_outcome, firstn_try, decided, mark_of, firstn}
+use Rattle.crush_choose.specs.Indep.{taken, leaf_in, indep_leaf_by, indep_leaf, indep_leaf_of, indep_outcome, indep_try, in_round, after_rounds, indep}
 use Rattle.crush_choose.specs.Rules.{ChooseCall, devices_before, devices_of, firstn_call, indep_call, put_out, bucket_out, slot_out, step_out, choose_call, Running, with_settings, start, after_step, after_steps, after_rule, rule_answer}
 
 -- ---- options

@@ -2,7 +2,7 @@
 -- second, and what the first chooses stays.
 use Rattle.std.proofs.Common.{◌≡◌, ℕ, zero, suc, Bool, true, false, if◌then◌else◌, Option, Some, None, option_map, refl}
 use Rattle.std.specs.Bool.{then_some}
-use Rattle.crush_select.specs.Least.{least, or_else}
+use Rattle.crush_choose.specs.Least.{least, or_else}
 
 -- where the first chooses nothing, nor does the second; a choice of the first of which P holds is
 -- that of the second

@@ -5,20 +5,20 @@ use Rattle.std.proofs.lemmas.Bool.Decides.{nat_tests}
 use Rattle.crush_hash.specs.Hash.{hash2}
 use Rattle.crush_types.specs.declared.ItemId.{ItemId}
 use Rattle.crush_bucket.specs.Tables.{TablesView, bucket_numbered}
-use Rattle.crush_select.specs.declared.walk.Reached.{Reached}
-use Rattle.crush_select.specs.declared.walk.Reached.TheVariants.{Empty, Wrong, Found}
-use Rattle.crush_select.specs.declared.firstn.FirstnCall.{FirstnCall}
-use Rattle.crush_select.specs.declared.indep.IndepCall.{IndepCall}
-use Rattle.crush_select.specs.declared.mark.Mark.{Mark}
-use Rattle.crush_select.specs.declared.mark.Mark.TheVariants.{Skipped, Placed}
-use Rattle.crush_select.specs.Weights.{weight_at, is_in, id_is_in, is_device_in}
-use Rattle.crush_select.specs.Reach.{reach, step}
-use Rattle.crush_select.specs.Least.{least}
-use Rattle.crush_select.specs.Marks.{Marks, Slot, placed_by, items_of, leaves_of}
-use Rattle.crush_select.specs.Firstn.{has, new_leaf, leaf_by, leaf_below, leaf_start, leaf_of, firstn_outcome, firstn_try, decided, mark_of, IsFirstnAnswer, firstn}
-use Rattle.crush_select.specs.Indep.{taken, leaf_in, indep_leaf_by, indep_leaf, indep_leaf_of, indep_outcome, indep_try, IsIndepAnswer, indep}
+use Rattle.crush_choose.specs.declared.walk.Reached.{Reached}
+use Rattle.crush_choose.specs.declared.walk.Reached.TheVariants.{Empty, Wrong, Found}
+use Rattle.crush_choose.specs.declared.firstn.FirstnCall.{FirstnCall}
+use Rattle.crush_choose.specs.declared.indep.IndepCall.{IndepCall}
+use Rattle.crush_choose.specs.declared.mark.Mark.{Mark}
+use Rattle.crush_choose.specs.declared.mark.Mark.TheVariants.{Skipped, Placed}
+use Rattle.crush_choose.specs.Weights.{weight_at, is_in, id_is_in, is_device_in}
+use Rattle.crush_choose.specs.Reach.{reach, step}
+use Rattle.crush_choose.specs.Least.{least}
+use Rattle.crush_choose.specs.Marks.{Marks, Slot, placed_by, items_of, leaves_of}
+use Rattle.crush_choose.specs.Firstn.{has, new_leaf, leaf_by, leaf_below, leaf_start, leaf_of, firstn_outcome, firstn_try, decided, mark_of, IsFirstnAnswer, firstn}
+use Rattle.crush_choose.specs.Indep.{taken, leaf_in, indep_leaf_by, indep_leaf, indep_leaf_of, indep_outcome, indep_try, IsIndepAnswer, indep}
 use Rattle.crush_choose.proofs.Keeping.{Keeps, keeps_itself, keeps_test, keeps_branch, keeps_map, keeps_least, keeps_same}
-use Rattle.crush_select.proofs.Answering.{firstn_is, firstn_only, indep_is, indep_only}
+use Rattle.crush_choose.proofs.Answering.{firstn_is, firstn_only, indep_is, indep_only}
 
 -- ---- the device test
 

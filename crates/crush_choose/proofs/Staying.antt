@@ -7,11 +7,11 @@ use Rattle.crush_map.specs.Faults.{has_number}
 use Rattle.crush_map.specs.declared.draft.Step.{Step}
 use Rattle.crush_map.specs.declared.draft.Step.TheVariants.{Take, SetChooseTries, SetLeafTries, SetVaryR, SetStable, Choose, Emit}
 use Rattle.crush_bucket.specs.Tables.{TablesView, bucket_numbered}
-use Rattle.crush_select.specs.declared.mark.Mark.TheVariants.{Skipped, Placed}
-use Rattle.crush_select.specs.Weights.{weight_at, is_in, id_is_in}
-use Rattle.crush_select.specs.Marks.{Marks, Slot, items_of, leaves_of, item_at, leaf_at}
-use Rattle.crush_select.specs.Firstn.{firstn}
-use Rattle.crush_select.specs.Indep.{indep}
+use Rattle.crush_choose.specs.declared.mark.Mark.TheVariants.{Skipped, Placed}
+use Rattle.crush_choose.specs.Weights.{weight_at, is_in, id_is_in}
+use Rattle.crush_choose.specs.Marks.{Marks, Slot, items_of, leaves_of, item_at, leaf_at}
+use Rattle.crush_choose.specs.Firstn.{firstn}
+use Rattle.crush_choose.specs.Indep.{indep}
 use Rattle.crush_choose.specs.Rules.{ChooseCall, firstn_call, indep_call, put_out, bucket_out, slot_out, step_out, choose_call, leaf_tries, devices_of, devices_before, Running, start, with_chosen, after_step, after_steps, after_rule, rule_answer, IsTrace}
 use Rattle.crush_choose.specs.Stability.{AreLoweredOutside}
 use Rattle.crush_choose.proofs.Lowering.{IsLower, Stays, PutsOut, AllStay, firstn_stays, indep_stays}

@@ -3,3 +3,12 @@ pub mod Outs
 pub mod Trace
 pub mod Stability
 pub mod Private
+pub mod Weights
+pub mod Least
+pub mod Reach
+pub mod Growing
+pub mod Marks
+pub mod Firstn
+pub mod Entries
+pub mod Indep
+pub mod Laws

@@ -1,3 +1,6 @@
 -- What private clauses alone cite: what the code stores, and the bounds that it stays within. No
 -- public clause rests on it.
 pub mod Runs
+pub mod Walks
+pub mod Reachable
+pub mod Decisions

@@ -10,11 +10,11 @@ use Rattle.crush_map.specs.declared.draft.Step.{Step}
 use Rattle.crush_map.specs.declared.draft.Step.TheVariants.{Take, SetChooseTries, SetLeafTries, SetVaryR, SetStable, Choose, Emit}
 use Rattle.crush_map.specs.Faults.{Known, rule_fault, are_in_range, has_number}
 use Rattle.crush_bucket.specs.Tables.{TablesView, bucket_numbered}
-use Rattle.crush_select.specs.declared.firstn.FirstnCall.{FirstnCall}
-use Rattle.crush_select.specs.declared.indep.IndepCall.{IndepCall}
-use Rattle.crush_select.specs.Marks.{Slot, items_of, leaves_of, item_at, leaf_at}
-use Rattle.crush_select.specs.Firstn.{firstn}
-use Rattle.crush_select.specs.Indep.{indep}
+use Rattle.crush_choose.specs.declared.firstn.FirstnCall.{FirstnCall}
+use Rattle.crush_choose.specs.declared.indep.IndepCall.{IndepCall}
+use Rattle.crush_choose.specs.Marks.{Slot, items_of, leaves_of, item_at, leaf_at}
+use Rattle.crush_choose.specs.Firstn.{firstn}
+use Rattle.crush_choose.specs.Indep.{indep}
 
 -- the rule has no fault given some declarations, and the tunables are in range, as for every rule
 -- of a map

@@ -1,7 +1,7 @@
 -- Second reweights under which a run of a rule stays as it was.
 use Rattle.std.specs.Prelude.{◌≡◌, ℕ, ◌≤◌, List, true}
 use Rattle.crush_map.specs.Faults.{has_number}
-use Rattle.crush_select.specs.Weights.{weight_at}
+use Rattle.crush_choose.specs.Weights.{weight_at}
 
 -- the second reweights are nowhere higher than the first, and the same for each of `devices`: any
 -- number of others may be lowered

@@ -8,9 +8,9 @@ ghost use Rattle.crush_map.specs.declared.draft.Tunables.{Tunables};
 ghost use Rattle.crush_map.specs.Map.{Map, IsMap};
 ghost use Rattle.crush_bucket.specs.Laws.{HasNoDeviceBucket};
 ghost use Rattle.crush_bucket.specs.Tables.{TablesView, tables_of};
-ghost use Rattle.crush_select.specs.declared.firstn.FirstnCall.{FirstnCall};
-ghost use Rattle.crush_select.specs.Marks.{Slot};
-ghost use Rattle.crush_select.specs.Firstn.{firstn};
+ghost use Rattle.crush_choose.specs.declared.firstn.FirstnCall.{FirstnCall};
+ghost use Rattle.crush_choose.specs.Marks.{Slot};
+ghost use Rattle.crush_choose.specs.Firstn.{firstn};
 ghost use Rattle.crush_choose.specs.Trace.{rule_trace};
 ghost use Rattle.crush_choose.specs.Rules.{CanRun, IsTrace, Running, Settings, choose_call, step_out, after_step};
 

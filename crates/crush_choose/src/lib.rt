@@ -12,9 +12,22 @@ pub mod limits;
 mod plan;
 mod rule;
 pub mod stability;
+mod effort;
+mod firstn;
+mod indep;
+pub mod select_laws;
+pub mod select_limits;
+mod mark;
+mod reachable;
+mod row;
+mod walk;
+mod weights;
 
 pub use ahead::{can_look_ahead, look_ahead};
-pub use crush_select::{
-    FULL, FirstnCall, IndepCall, Row, Slot, Weights, choose_firstn, choose_indep, is_in,
-};
 pub use rule::{Out, run_rule, touches};
+pub use firstn::{FirstnCall, choose_firstn, has, slot_has};
+pub use indep::{IndepCall, choose_indep};
+pub use mark::{Mark, Spot};
+pub use row::{Row, Slot};
+pub use walk::Reached;
+pub use weights::{FULL, Weights, is_in};

@@ -4,7 +4,7 @@ ghost use Rattle.std.specs.Prelude.{◌≡◌, ◌≢◌, ◌<◌, ◌≤◌, �
 ghost use Rattle.crush_map.specs.declared.draft.Step.{Step};
 ghost use Rattle.crush_map.specs.Faults.{has_number};
 ghost use Rattle.crush_bucket.specs.Tables.{TablesView};
-ghost use Rattle.crush_select.specs.Weights.{weight_at};
+ghost use Rattle.crush_choose.specs.Weights.{weight_at};
 ghost use Rattle.crush_choose.specs.Rules.{IsTrace, after_rule, rule_answer};
 ghost use Rattle.crush_choose.specs.Stability.{AreLoweredOutside};
 

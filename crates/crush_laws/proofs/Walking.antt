@@ -12,10 +12,10 @@ use Rattle.crush_bucket.specs.Pick.{pick}
 use Rattle.crush_bucket.specs.Tables.{tables_of, bucket_at, pick_at, bucket_numbered}
 use Rattle.crush_bucket.proofs.Numbered.{none_of_device, same_id}
 use Rattle.crush_bucket.proofs.Validity.{is_laid}
-use Rattle.crush_select.specs.declared.walk.Reached.{Reached}
-use Rattle.crush_select.specs.declared.walk.Reached.TheVariants.{Empty, Wrong, Found}
-use Rattle.crush_select.specs.Reach.{at_item, reach}
-use Rattle.crush_select.specs.Laws.{reach_after_pick}
+use Rattle.crush_choose.specs.declared.walk.Reached.{Reached}
+use Rattle.crush_choose.specs.declared.walk.Reached.TheVariants.{Empty, Wrong, Found}
+use Rattle.crush_choose.specs.Reach.{at_item, reach}
+use Rattle.crush_choose.specs.Laws.{reach_after_pick}
 use Rattle.crush_laws.specs.MapTree.{Tree, device, bucket, Branches, no_branches, branch, id_of, type_of, items_of, IsTreeOf, AreTreesOf}
 use Rattle.crush_laws.specs.Walk.{walk, walk_into}
 use Rattle.crush_laws.proofs.Standing.{HasLaws, stands_at, same_item}

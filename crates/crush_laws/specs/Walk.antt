@@ -9,8 +9,8 @@ use Rattle.crush_types.specs.declared.ItemId.{ItemId}
 use Rattle.crush_types.specs.Kinds.{is_uniform}
 use Rattle.crush_bucket.specs.Bucket.{BucketView}
 use Rattle.crush_bucket.specs.Pick.{pick}
-use Rattle.crush_select.specs.declared.walk.Reached.{Reached}
-use Rattle.crush_select.specs.declared.walk.Reached.TheVariants.{Empty, Wrong, Found}
+use Rattle.crush_choose.specs.declared.walk.Reached.{Reached}
+use Rattle.crush_choose.specs.declared.walk.Reached.TheVariants.{Empty, Wrong, Found}
 use Rattle.crush_laws.specs.MapTree.{Tree, device, bucket, Branches, no_branches, branch, id_of, type_of, items_of}
 
 unfoldable mutual

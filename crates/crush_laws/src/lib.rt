@@ -8,13 +8,13 @@ ghost use Rattle.crush_map.specs.Map.{Map, IsMap};
 ghost use Rattle.crush_map.specs.Sound.{has_item};
 ghost use Rattle.crush_bucket.specs.Bucket.{BucketView};
 ghost use Rattle.crush_bucket.specs.Tables.{tables_of, bucket_at};
-ghost use Rattle.crush_select.specs.Reach.{reach, step};
+ghost use Rattle.crush_choose.specs.Reach.{reach, step};
 ghost use Rattle.crush_laws.specs.MapTree.{Tree, IsTreeAt, IsTreeOf, id_of};
 ghost use Rattle.crush_laws.specs.Walk.{added, walk};
 
 use crush_bucket::laws::a_pick_is_an_item;
 use crush_map::{buckets_are_sound, numbers_and_names_are_once};
-use crush_select::laws::walk_on_a_map_goes_on;
+use crush_choose::select_laws::walk_on_a_map_goes_on;
 
 /// Each item of a map, and so each of its buckets, has a tree, and no other.
 pub fn items_of_a_map_have_one_tree()

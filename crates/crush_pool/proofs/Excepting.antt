@@ -11,9 +11,9 @@ use Rattle.crush_map.specs.declared.draft.Rule.{Rule}
 use Rattle.crush_map.specs.declared.draft.Step.{Step}
 use Rattle.crush_types.specs.declared.ItemId.{ItemId}
 use Rattle.crush_bucket.specs.Tables.{TablesView, has_device, tables_of}
-use Rattle.crush_select.specs.Firstn.{has, slot_has}
-use Rattle.crush_select.specs.Marks.{Slot}
-use Rattle.crush_select.specs.Weights.{weight_at, weights_of}
+use Rattle.crush_choose.specs.Firstn.{has, slot_has}
+use Rattle.crush_choose.specs.Marks.{Slot}
+use Rattle.crush_choose.specs.Weights.{weight_at, weights_of}
 use Rattle.crush_choose.specs.Rules.{rule_answer}
 use Rattle.crush_pool.specs.Exceptions.{HasNoDeviceTwice, after_pair, after_pairs, device_item, exchanged, is_of_group, pairs_of, takes_effect, targets_of}
 use Rattle.crush_pool.specs.Placements.{if_up, is_up_slot, placed, placement, primary_of, rule_numbered, up_of}

@@ -12,8 +12,8 @@ use Rattle.crush_map.specs.Faults.{has_number}
 use Rattle.crush_map.specs.declared.limits.TheConstants.{NUMBER_LIMIT}
 use Rattle.crush_types.specs.declared.ItemId.{ItemId}
 use Rattle.crush_bucket.specs.Tables.{TablesView}
-use Rattle.crush_select.specs.Firstn.{slot_has}
-use Rattle.crush_select.specs.Marks.{Slot}
+use Rattle.crush_choose.specs.Firstn.{slot_has}
+use Rattle.crush_choose.specs.Marks.{Slot}
 use Rattle.crush_types.specs.DeviceValues.{Values, all, first_given, value_at, values_of, with_value}
 use Rattle.crush_types.specs.declared.limits.TheConstants.{ID_COUNT}
 use Rattle.crush_types.proofs.DeviceValues.{nothing_given, pair_before, value-values_of}

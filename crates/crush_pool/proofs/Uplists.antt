@@ -1,7 +1,7 @@
 -- The up list of an erasure pool, place by place, and what both kinds of pools have in common.
 use Rattle.std.proofs.Common.{◌≡◌, ℕ, List, [], ◌∷◌, Bool, true, false, None, Some, filter, find, is_some, unwrap_or, slice_index_or, refl, ap, ◌∙◌}
 use Rattle.std.proofs.Math.ListN.{get_or-map}
-use Rattle.crush_select.specs.Marks.{Slot}
+use Rattle.crush_choose.specs.Marks.{Slot}
 use Rattle.crush_pool.specs.Placements.{is_up_slot, if_up, primary_of, up_of}
 
 at_place : (flags : List Bool) (raw : List Slot) (place : ℕ) → slice_index_or (up_of true flags raw) place None ≡ if_up flags (slice_index_or raw place None)

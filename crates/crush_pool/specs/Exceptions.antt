@@ -6,9 +6,9 @@ use Rattle.std.specs.List.{list_all}
 use Rattle.crush_types.specs.declared.ItemId.{ItemId}
 use Rattle.crush_map.specs.declared.limits.TheConstants.{NUMBER_LIMIT}
 use Rattle.crush_bucket.specs.Tables.{TablesView, has_device}
-use Rattle.crush_select.specs.Firstn.{has, slot_has}
-use Rattle.crush_select.specs.Marks.{Slot}
-use Rattle.crush_select.specs.Weights.{weight_at}
+use Rattle.crush_choose.specs.Firstn.{has, slot_has}
+use Rattle.crush_choose.specs.Marks.{Slot}
+use Rattle.crush_choose.specs.Weights.{weight_at}
 use Rattle.crush_pool.specs.declared.exceptions.Pair.{Pair}
 use Rattle.crush_pool.specs.declared.limits.TheConstants.{PAIR_LIMIT}
 

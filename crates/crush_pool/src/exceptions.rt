@@ -5,8 +5,8 @@ ghost use Rattle.std.specs.Prelude.{◌≡◌, ◌<◌, ◌≤◌, ◌+◌, IfOk
 ghost use Rattle.std.specs.List.{list_all, list_any};
 ghost use Rattle.crush_map.specs.Faults.{has_number};
 ghost use Rattle.crush_map.specs.declared.limits.TheConstants.{NUMBER_LIMIT};
-ghost use Rattle.crush_select.specs.Firstn.{slot_has};
-ghost use Rattle.crush_select.specs.declared.limits.TheConstants.{SIZE_LIMIT};
+ghost use Rattle.crush_choose.specs.Firstn.{slot_has};
+ghost use Rattle.crush_choose.specs.declared.select_limits.TheConstants.{SIZE_LIMIT};
 ghost use Rattle.crush_pool.specs.Exceptions as spec;
 ghost use Rattle.crush_pool.specs.Private.Pairs.{HasFirst, HasNext, first_from, no_pair};
 ghost use Rattle.crush_pool.specs.declared.limits.TheConstants.{GROUP_LIMIT};
@@ -17,8 +17,8 @@ use arrayvec::ArrayVec;
 use crush_bucket::Tables;
 use crush_map::limits::NUMBER_LIMIT;
 use crush_map::{ByDevice, ItemId};
-use crush_select::limits::SIZE_LIMIT;
-use crush_select::{Slot, Weights, has, slot_has};
+use crush_choose::select_limits::SIZE_LIMIT;
+use crush_choose::{Slot, Weights, has, slot_has};
 use std::alloc::{AllocError, Global};
 use std::marker::Model;
 
@@ -264,7 +264,7 @@ pub(crate) struct Excepted {
 
 impl Model for Excepted {
     ghost use Rattle.std.specs.Prelude.{List};
-    ghost use Rattle.crush_select.specs.Marks.{Slot};
+    ghost use Rattle.crush_choose.specs.Marks.{Slot};
 
     ghost Value = { List Slot };
 

@@ -3,7 +3,7 @@
 
 ghost use Rattle.std.specs.Prelude.{◌≡◌, option_map};
 ghost use Rattle.crush_bucket.specs.Tables.{tables_of};
-ghost use Rattle.crush_select.specs.Weights.{weights_of};
+ghost use Rattle.crush_choose.specs.Weights.{weights_of};
 ghost use Rattle.crush_pool.specs.Placements.{rule_numbered};
 ghost use Rattle.crush_pool.specs.States.{flags_of, reweights};
 
@@ -12,9 +12,8 @@ use crate::placing::{Placement, placement_by, rule_with_id, run, set_up};
 use crate::pool::{Pool, PoolParts};
 use crate::states::{DeviceState, DeviceStates};
 use crush_bucket::{LANES, Scratch, Tables};
-use crush_choose::{Out, can_look_ahead, look_ahead, touches};
+use crush_choose::{Out, Slot, Weights, can_look_ahead, look_ahead, touches};
 use crush_map::{CrushMap, Rule};
-use crush_select::{Slot, Weights};
 use std::alloc::{AllocError, Global};
 use std::marker::Model;
 
@@ -38,7 +37,7 @@ impl<'a> Model for Placer<'a> {
     ghost use Rattle.crush_map.specs.Map.{IsMap};
     ghost use Rattle.crush_bucket.specs.Tables.{tables_of};
     ghost use Rattle.crush_choose.specs.Rules.{CanRun};
-    ghost use Rattle.crush_select.specs.Weights.{weights_of};
+    ghost use Rattle.crush_choose.specs.Weights.{weights_of};
     ghost use Rattle.crush_pool.specs.Exceptions.{are_pairs};
     ghost use Rattle.crush_pool.specs.Placements.{rule_numbered};
     ghost use Rattle.crush_pool.specs.Placers.{PoolOnMap};
@@ -65,8 +64,8 @@ impl<'a> Placer<'a> {
     ghost use Rattle.crush_map.specs.Map.{IsMap};
     ghost use Rattle.crush_bucket.specs.Tables.{scratch_of, tables_of};
     ghost use Rattle.crush_choose.specs.Rules.{IsTrace, rule_answer};
-    ghost use Rattle.crush_select.specs.Weights.{weights_of};
-    ghost use Rattle.crush_select.specs.declared.limits.TheConstants.{SIZE_LIMIT};
+    ghost use Rattle.crush_choose.specs.Weights.{weights_of};
+    ghost use Rattle.crush_choose.specs.declared.select_limits.TheConstants.{SIZE_LIMIT};
     ghost use Rattle.crush_pool.specs.Exceptions.{are_pairs, excepted};
     ghost use Rattle.crush_pool.specs.Placements.{placement, rule_numbered, up_of};
     ghost use Rattle.crush_pool.specs.Placers.{steps_of};

@@ -4,8 +4,8 @@ ghost use Rattle.std.specs.Prelude.{◌≡◌, ◌<◌, ◌≤◌, List, Some, I
 ghost use Rattle.crush_map.specs.Map.{IsMap, Map};
 ghost use Rattle.crush_bucket.specs.Tables.{scratch_of, tables_of};
 ghost use Rattle.crush_choose.specs.Rules.{CanRun, IsTrace, rule_answer};
-ghost use Rattle.crush_select.specs.Weights.{weights_of};
-ghost use Rattle.crush_select.specs.declared.limits.TheConstants.{SIZE_LIMIT};
+ghost use Rattle.crush_choose.specs.Weights.{weights_of};
+ghost use Rattle.crush_choose.specs.declared.select_limits.TheConstants.{SIZE_LIMIT};
 ghost use Rattle.crush_pool.specs.Exceptions.{are_pairs, excepted};
 ghost use Rattle.crush_pool.specs.States.{flags_of, reweights};
 ghost use Rattle.crush_pool.specs.Placements as spec;
@@ -17,9 +17,8 @@ use crate::pool::{Pool, PoolFault};
 use crate::states::DeviceStates;
 use crush_bucket::{Scratch, Tables};
 use crush_choose::laws::rules_of_a_map_can_run;
-use crush_choose::{Out, run_rule};
+use crush_choose::{Out, Slot, Weights, run_rule};
 use crush_map::{CrushMap, Listed, Rule};
-use crush_select::{Slot, Weights};
 use std::alloc::{AllocError, Global};
 
 /// The placement of a group.

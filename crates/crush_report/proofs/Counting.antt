@@ -8,8 +8,8 @@ use Rattle.std.proofs.lemmas.Grind.{flat_map-append}
 use Rattle.std.proofs.lemmas.List.{append-nil, get_or_past}
 use Rattle.std.proofs.lemmas.List.Elements.{filter-append}
 use Rattle.crush_types.specs.declared.ItemId.{ItemId}
-use Rattle.crush_select.specs.Firstn.{has, slot_has}
-use Rattle.crush_select.specs.Marks.{Slot}
+use Rattle.crush_choose.specs.Firstn.{has, slot_has}
+use Rattle.crush_choose.specs.Marks.{Slot}
 use Rattle.crush_pool.specs.Placements.{primary_of}
 use Rattle.crush_report.proofs.Sums.{filter_if, one_if}
 use Rattle.crush_report.specs.Private.Tallies.{HasRoom, HasSameLengths, IsCounting, IsTally, TallyView, count_at, entries_in, filled_in, groups_in, is_again, primaries_in}

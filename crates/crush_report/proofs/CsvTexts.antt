@@ -7,7 +7,7 @@ use Rattle.std.proofs.lemmas.List.{append-nil, map-append, take_more}
 use Rattle.std.proofs.lemmas.List.Folds.{list_any-append}
 use Rattle.std.proofs.lemmas.Grind.{flat_map-append}
 use Rattle.csv.specs.Writing.{default_writer, fields_text, is_blank, needs_byte, needs_quotes, row_text}
-use Rattle.crush_select.specs.Marks.{Slot}
+use Rattle.crush_choose.specs.Marks.{Slot}
 use Rattle.crush_report.specs.Csv.{list_text, move_fields, move_head, records_text, slot_text, usage_fields, usage_head}
 use Rattle.crush_report.specs.declared.rows.MoveRow.{MoveRow}
 use Rattle.crush_report.specs.declared.rows.UsageRow.{UsageRow}

@@ -13,7 +13,7 @@ use Rattle.crush_report.specs.DeviceCsv.{IsChangeRecord, IsDeviceCsv, IsFlag, Is
 use Rattle.crush_pool.specs.declared.changes.DeviceChange.{DeviceChange}
 use Rattle.crush_pool.proofs.ValidChanges.{Decides-are_valid_changes}
 use Rattle.crush_map.specs.declared.limits.TheConstants.{NUMBER_LIMIT}
-use Rattle.crush_select.specs.declared.weights.TheConstants.{FULL}
+use Rattle.crush_choose.specs.declared.weights.TheConstants.{FULL}
 
 -- ---- fields
 

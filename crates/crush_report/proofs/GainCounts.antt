@@ -6,8 +6,8 @@ use Rattle.std.proofs.lemmas.Bool.Decides.{Decides-int_eq}
 use Rattle.std.proofs.lemmas.List.Elements.{All-head, All-tail}
 use Rattle.std.proofs.lemmas.List.Sums.{sum_by-cons}
 use Rattle.crush_types.specs.declared.ItemId.{ItemId}
-use Rattle.crush_select.specs.Firstn.{has}
-use Rattle.crush_select.specs.Marks.{Slot}
+use Rattle.crush_choose.specs.Firstn.{has}
+use Rattle.crush_choose.specs.Marks.{Slot}
 use Rattle.crush_report.specs.Moves.{gained, gained_in, is_gain}
 use Rattle.crush_pool.specs.Exceptions.{device_item}
 use Rattle.crush_report.specs.declared.rows.MoveRow.{MoveRow}

@@ -5,7 +5,7 @@ use Rattle.std.proofs.lemmas.List.{map-append}
 use Rattle.std.proofs.lemmas.List.Elements.{filter-append, filter_map-append}
 use Rattle.crush_bucket.specs.Tables.{TablesView}
 use Rattle.crush_map.specs.declared.draft.Step.{Step}
-use Rattle.crush_select.specs.Marks.{Slot}
+use Rattle.crush_choose.specs.Marks.{Slot}
 use Rattle.crush_pool.specs.declared.exceptions.Pair.{Pair}
 use Rattle.crush_pool.specs.declared.pool.PoolParts.{PoolParts}
 use Rattle.crush_report.specs.Impact.{touches, touched}

@@ -8,8 +8,8 @@ use Rattle.std.proofs.lemmas.Bool.{cases_lt}
 use Rattle.std.proofs.lemmas.List.{drop-append-le, get_or_append_left, take-append-le, take_all}
 use Rattle.std.proofs.lemmas.Bool.Decides.{nat_tests}
 use Rattle.crush_bucket.specs.Tables.{tables_of}
-use Rattle.crush_select.specs.Marks.{Slot}
-use Rattle.crush_select.specs.Weights.{weights_of}
+use Rattle.crush_choose.specs.Marks.{Slot}
+use Rattle.crush_choose.specs.Weights.{weights_of}
 use Rattle.crush_choose.specs.Rules.{rule_answer}
 use Rattle.crush_pool.specs.Placers.{PoolOnMap, steps_of}
 use Rattle.crush_pool.specs.Pools.{is_pool, seed_of}

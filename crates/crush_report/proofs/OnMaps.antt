@@ -4,9 +4,9 @@ use Rattle.std.proofs.lemmas.Bool.{false≢true}
 use Rattle.crush_map.specs.Map.{Map}
 use Rattle.crush_map.specs.declared.draft.Rule.{Rule}
 use Rattle.crush_bucket.specs.Tables.{tables_of}
-use Rattle.crush_select.specs.Marks.{Slot}
+use Rattle.crush_choose.specs.Marks.{Slot}
 use Rattle.crush_choose.specs.Rules.{rule_answer}
-use Rattle.crush_select.specs.Weights.{weights_of}
+use Rattle.crush_choose.specs.Weights.{weights_of}
 use Rattle.crush_pool.specs.Exceptions.{excepted}
 use Rattle.crush_pool.specs.Placements.{placed, placement, rule_numbered, up_of}
 use Rattle.crush_pool.specs.Placers.{PoolOnMap, steps_in, steps_of}
@@ -22,7 +22,7 @@ use Rattle.crush_report.specs.OnMaps.{answer_on, up_on, touched_on}
 use Rattle.crush_report.specs.Reports.{groups, impact, impact_by, moves, moves_by, up_list, usage, usage_by}
 use Rattle.crush_report.specs.Usage.{usage_rows}
 use Rattle.crush_report.proofs.Short.{answer_few as rule_few, up_short, size_few}
-use Rattle.crush_select.specs.declared.limits.TheConstants.{SIZE_LIMIT}
+use Rattle.crush_choose.specs.declared.select_limits.TheConstants.{SIZE_LIMIT}
 
 -- ---- the up list of a group
 

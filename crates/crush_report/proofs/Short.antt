@@ -4,9 +4,9 @@ use Rattle.std.proofs.lemmas.List.{length-map}
 use Rattle.crush_bucket.specs.Tables.{TablesView}
 use Rattle.crush_map.specs.declared.draft.Step.{Step}
 use Rattle.crush_map.specs.declared.draft.Step.TheVariants.{Take, SetChooseTries, SetLeafTries, SetVaryR, SetStable, Choose, Emit}
-use Rattle.crush_select.specs.Marks.{Slot}
+use Rattle.crush_choose.specs.Marks.{Slot}
 use Rattle.crush_choose.specs.Rules.{Running, with_settings, after_step, after_steps, after_rule, rule_answer, start}
-use Rattle.crush_select.specs.Firstn.{slot_has}
+use Rattle.crush_choose.specs.Firstn.{slot_has}
 use Rattle.crush_types.specs.declared.ItemId.{ItemId}
 use Rattle.crush_pool.specs.Exceptions.{after_pair, after_pairs, device_item, excepted, exchanged, pairs_of, takes_effect}
 use Rattle.crush_pool.specs.declared.exceptions.Pair.{Pair}
@@ -15,7 +15,7 @@ use Rattle.std.proofs.lemmas.Bool.Decides.{nat_tests}
 use Rattle.crush_pool.specs.Pools.{is_pool, seed_of}
 use Rattle.crush_pool.specs.declared.pool.PoolParts.{PoolParts}
 use Rattle.crush_report.specs.Reports.{up_list}
-use Rattle.crush_select.specs.declared.limits.TheConstants.{SIZE_LIMIT}
+use Rattle.crush_choose.specs.declared.select_limits.TheConstants.{SIZE_LIMIT}
 use Rattle.crush_pool.specs.declared.limits.TheConstants.{GROUP_LIMIT}
 
 -- ---- the answer of a rule

@@ -9,8 +9,8 @@ use Rattle.std.proofs.lemmas.Bool.Decides.{Decides-eqb, Decides-int_eq}
 use Rattle.std.proofs.lemmas.List.Elements.{All-head, All-tail}
 use Rattle.std.proofs.lemmas.List.Sums.{sum_by-cons}
 use Rattle.crush_map.specs.declared.draft.Device.{Device}
-use Rattle.crush_select.specs.Firstn.{slot_has}
-use Rattle.crush_select.specs.Marks.{Slot}
+use Rattle.crush_choose.specs.Firstn.{slot_has}
+use Rattle.crush_choose.specs.Marks.{Slot}
 use Rattle.crush_pool.specs.Exceptions.{device_item}
 use Rattle.crush_report.specs.Usage.{usage_row}
 use Rattle.crush_report.specs.declared.rows.UsageRow.{UsageRow}

@@ -10,15 +10,15 @@ use Rattle.crush_map.specs.declared.draft.Device.{Device}
 use Rattle.std.proofs.lemmas.Bool.{cases_lt}
 use Rattle.std.proofs.lemmas.List.{get_or_past, take_more}
 use Rattle.std.proofs.lemmas.List.Recursion.{max_push}
-use Rattle.crush_select.specs.Firstn.{has, slot_has}
-use Rattle.crush_select.specs.Marks.{Slot}
+use Rattle.crush_choose.specs.Firstn.{has, slot_has}
+use Rattle.crush_choose.specs.Marks.{Slot}
 use Rattle.crush_pool.specs.Placements.{primary_of}
 use Rattle.crush_report.proofs.Short.{filter_few}
 use Rattle.crush_report.specs.Private.Tallies.{count_at, HasRoom, TallyView, IsTally, id_bound, row_by}
 use Rattle.crush_pool.specs.Exceptions.{device_item}
 use Rattle.crush_report.specs.Usage.{all_entries, entries_of, usage_row, usage_rows}
 use Rattle.crush_report.specs.declared.rows.UsageRow.{UsageRow}
-use Rattle.crush_select.specs.declared.limits.TheConstants.{SIZE_LIMIT}
+use Rattle.crush_choose.specs.declared.select_limits.TheConstants.{SIZE_LIMIT}
 use Rattle.crush_pool.specs.declared.limits.TheConstants.{GROUP_LIMIT}
 
 -- the entries of n lists of at most SIZE_LIMIT slots

@@ -9,11 +9,11 @@ use Rattle.crush_map.specs.Sound.{has_item}
 use Rattle.crush_map.specs.declared.draft.Device.{Device}
 use Rattle.crush_map.specs.declared.draft.Rule.{Rule}
 use Rattle.crush_bucket.specs.Tables.{tables_of}
-use Rattle.crush_select.specs.Marks.{Slot}
+use Rattle.crush_choose.specs.Marks.{Slot}
 use Rattle.crush_choose.specs.Rules.{rule_answer}
-use Rattle.crush_select.specs.Weights.{weights_of}
-use Rattle.crush_select.specs.Firstn.{has, slot_has}
-use Rattle.crush_select.specs.Weights.{weight_at}
+use Rattle.crush_choose.specs.Weights.{weights_of}
+use Rattle.crush_choose.specs.Firstn.{has, slot_has}
+use Rattle.crush_choose.specs.Weights.{weight_at}
 use Rattle.crush_bucket.specs.Tables.{has_device}
 use Rattle.crush_types.specs.declared.ItemId.{ItemId}
 use Rattle.crush_pool.specs.Exceptions.{after_pair, after_pairs, device_item, excepted, exchanged, pairs_of, takes_effect}

@@ -5,7 +5,7 @@ use Rattle.std.specs.Prelude.{ℕ, List, [], ◌∷◌, map, Some, None, codes, 
 use Rattle.std.specs.Fmt.{decimal, signed_decimal}
 use Rattle.std.specs.List.{join_by}
 use Rattle.csv.specs.Writing.{default_writer, row_text}
-use Rattle.crush_select.specs.Marks.{Slot}
+use Rattle.crush_choose.specs.Marks.{Slot}
 use Rattle.crush_report.specs.declared.rows.UsageRow.{UsageRow}
 use Rattle.crush_report.specs.declared.rows.MoveRow.{MoveRow}
 

@@ -12,7 +12,7 @@ use Rattle.crush_grammar.specs.Numbers.{number_of}
 use Rattle.crush_pool.specs.Changes.{are_valid_changes}
 use Rattle.crush_pool.specs.declared.changes.DeviceChange.{DeviceChange}
 use Rattle.crush_map.specs.declared.limits.TheConstants.{NUMBER_LIMIT}
-use Rattle.crush_select.specs.declared.weights.TheConstants.{FULL}
+use Rattle.crush_choose.specs.declared.weights.TheConstants.{FULL}
 use Rattle.crush_pool.specs.declared.limits.TheConstants.{CHANGE_LIMIT}
 
 -- ---- the form

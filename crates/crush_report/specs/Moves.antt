@@ -1,8 +1,8 @@
 -- The groups of a pool whose up lists differ between two maps.
 use Rattle.std.specs.Prelude.{ℕ, suc, ◌+◌, Bool, true, false, not, ◌&&◌, List, [], ◌∷◌, Option, Some, None, is_none, if◌then◌else◌}
 use Rattle.std.specs.List.{filter_map}
-use Rattle.crush_select.specs.Firstn.{has, slot_has}
-use Rattle.crush_select.specs.Marks.{Slot}
+use Rattle.crush_choose.specs.Firstn.{has, slot_has}
+use Rattle.crush_choose.specs.Marks.{Slot}
 use Rattle.crush_report.specs.declared.rows.MoveRow.{MoveRow}
 
 -- ---- lists that are the same: equal slots in the same order

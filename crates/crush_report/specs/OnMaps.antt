@@ -1,8 +1,8 @@
 -- What is counted of a pool on a map, by the steps of the pool's rule.
 use Rattle.std.specs.Prelude.{ℕ, Bool, List}
 use Rattle.crush_bucket.specs.Tables.{tables_of}
-use Rattle.crush_select.specs.Marks.{Slot}
-use Rattle.crush_select.specs.Weights.{weights_of}
+use Rattle.crush_choose.specs.Marks.{Slot}
+use Rattle.crush_choose.specs.Weights.{weights_of}
 use Rattle.crush_choose.specs.Rules.{rule_answer}
 use Rattle.crush_pool.specs.Placers.{PoolOnMap, steps_of}
 use Rattle.crush_pool.specs.Pools.{seed_of}

@@ -6,8 +6,8 @@ use Rattle.crush_map.specs.Map.{Map}
 use Rattle.crush_map.specs.declared.draft.Rule.{Rule}
 use Rattle.crush_map.specs.declared.draft.Step.{Step}
 use Rattle.crush_bucket.specs.Tables.{TablesView, tables_of}
-use Rattle.crush_select.specs.Marks.{Slot}
-use Rattle.crush_select.specs.Weights.{weights_of}
+use Rattle.crush_choose.specs.Marks.{Slot}
+use Rattle.crush_choose.specs.Weights.{weights_of}
 use Rattle.crush_pool.specs.Placements.{placed, rule_numbered}
 use Rattle.crush_pool.specs.States.{flags_of, reweights}
 use Rattle.crush_pool.specs.declared.exceptions.Pair.{Pair}

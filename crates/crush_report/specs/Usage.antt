@@ -2,8 +2,8 @@
 use Rattle.std.specs.Prelude.{ℕ, ◌*◌, ◌/◌, ◌==◌, List, length, map, filter, is_some, if◌then◌else◌}
 use Rattle.std.specs.List.{flat_map}
 use Rattle.crush_map.specs.declared.draft.Device.{Device}
-use Rattle.crush_select.specs.Firstn.{has, slot_has}
-use Rattle.crush_select.specs.Marks.{Slot}
+use Rattle.crush_choose.specs.Firstn.{has, slot_has}
+use Rattle.crush_choose.specs.Marks.{Slot}
 use Rattle.crush_pool.specs.Exceptions.{device_item}
 use Rattle.crush_pool.specs.Placements.{primary_of}
 use Rattle.crush_report.specs.declared.rows.UsageRow.{UsageRow}

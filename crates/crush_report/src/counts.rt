@@ -1,11 +1,11 @@
 //! Counts for each device.
 
 ghost use Rattle.std.specs.Prelude.{◌≡◌, ◌<◌, ◌+◌, ◌&&◌, ℕ, if◌then◌else◌, length, slice_index_or};
-ghost use Rattle.crush_select.specs.Firstn.{slot_has};
+ghost use Rattle.crush_choose.specs.Firstn.{slot_has};
 ghost use Rattle.crush_report.specs.Private.Tallies.{count_at, HasRoom, is_again};
 ghost use Rattle.crush_pool.specs.Exceptions.{device_item};
 
-use crush_select::{Slot, has};
+use crush_choose::{Slot, has};
 
 /// Adds one to the count of the device in a slot. A device past the end of the counts has none.
 pub(crate) fn count_slot(counts: &mut [u32], slot: Slot)

@@ -8,7 +8,7 @@ ghost use Rattle.csv.specs.Writing.{default_writer, row_text};
 ghost use Rattle.crush_report.specs.Csv as spec;
 
 use crate::rows::{MoveRow, UsageRow};
-use crush_select::Slot;
+use crush_choose::Slot;
 use itoa::Buffer;
 use std::alloc::{AllocError, Global};
 

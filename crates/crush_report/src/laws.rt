@@ -4,9 +4,9 @@ ghost use Rattle.std.specs.Prelude.{◌≡◌, ◌≢◌, ◌↔◌, ◌<◌, �
 ghost use Rattle.crush_map.specs.Faults.{has_number};
 ghost use Rattle.crush_map.specs.Map.{Map};
 ghost use Rattle.crush_map.specs.declared.draft.Rule.{Rule};
-ghost use Rattle.crush_select.specs.Firstn.{has};
-ghost use Rattle.crush_select.specs.Marks.{Slot};
-ghost use Rattle.crush_select.specs.Weights.{weight_at, weights_of};
+ghost use Rattle.crush_choose.specs.Firstn.{has};
+ghost use Rattle.crush_choose.specs.Marks.{Slot};
+ghost use Rattle.crush_choose.specs.Weights.{weight_at, weights_of};
 ghost use Rattle.crush_pool.specs.States.{flags_of, reweights};
 ghost use Rattle.crush_pool.specs.declared.exceptions.Pair.{Pair};
 ghost use Rattle.crush_pool.specs.declared.pool.PoolParts.{PoolParts};

@@ -1,7 +1,7 @@
 //! Reports on a pool, by a map, the exceptions of the pool and states of devices.
 
 ghost use Rattle.std.specs.Prelude.{◌≡◌, Some, IfOk, is_some, true};
-ghost use Rattle.crush_select.specs.Weights.{weights_of};
+ghost use Rattle.crush_choose.specs.Weights.{weights_of};
 ghost use Rattle.crush_pool.specs.Exceptions.{are_pairs};
 ghost use Rattle.crush_pool.specs.Placements.{rule_numbered};
 ghost use Rattle.crush_pool.specs.States.{flags_of, reweights};
@@ -14,7 +14,7 @@ use crate::usage_counts::usage_with;
 use crush_bucket::Tables;
 use crush_map::{CrushMap, Listed};
 use crush_pool::{DeviceState, DeviceStates, Exceptions, Placer, Pool, reweights_of};
-use crush_select::Weights;
+use crush_choose::Weights;
 use std::alloc::{AllocError, Global};
 
 /// Makes the table of the reweights of `states`. `Err(AllocError)`: an allocation failed.

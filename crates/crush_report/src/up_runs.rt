@@ -2,9 +2,8 @@
 
 use crate::answers::Answers;
 use crush_bucket::Scratch;
-use crush_choose::Out;
+use crush_choose::{Out, Slot};
 use crush_pool::Placer;
-use crush_select::Slot;
 use std::alloc::{AllocError, Global};
 use std::marker::Model;
 

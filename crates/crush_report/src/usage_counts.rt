@@ -10,8 +10,8 @@ use crate::rows::UsageRow;
 use crate::up_runs::UpRun;
 use crush_map::{Device, Listed};
 use crush_pool::Placer;
-use crush_select::Slot;
-use crush_select::limits::SIZE_LIMIT;
+use crush_choose::Slot;
+use crush_choose::select_limits::SIZE_LIMIT;
 use std::alloc::{AllocError, Global};
 use std::marker::Model;
 
@@ -35,9 +35,9 @@ impl Model for Tally {
 
 impl Tally {
     ghost use Rattle.std.specs.Prelude.{◌≡◌, ◌<◌, ◌≤◌, ◌+◌, ◌*◌, ◌^◌, ◌&&◌, ℕ, List, [], ◌∷◌, ◌++◌, if◌then◌else◌, IfOk, length};
-    ghost use Rattle.crush_select.specs.Marks.{Slot};
-    ghost use Rattle.crush_select.specs.Firstn.{slot_has};
-    ghost use Rattle.crush_select.specs.declared.limits.TheConstants.{SIZE_LIMIT};
+    ghost use Rattle.crush_choose.specs.Marks.{Slot};
+    ghost use Rattle.crush_choose.specs.Firstn.{slot_has};
+    ghost use Rattle.crush_choose.specs.declared.select_limits.TheConstants.{SIZE_LIMIT};
     ghost use Rattle.crush_report.specs.Private.Tallies.{IsTally, HasRoom, HasSameLengths, count_at, row_by};
     ghost use Rattle.crush_pool.specs.Exceptions.{device_item};
 

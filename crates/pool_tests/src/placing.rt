@@ -7,12 +7,11 @@ ghost use Rattle.crush_pool.specs.Exceptions.{are_pairs};
 use crate::maps::MapTables;
 use crate::pools::{Short, pool};
 use crush_bucket::Scratch;
-use crush_choose::Out;
+use crush_choose::{Out, Weights};
 use crush_pool::{
     DeviceState, DeviceStates, Exceptions, Pair, Placement, Placer, Pool, PoolFault, place,
     reweights_of, rule_with_id,
 };
-use crush_select::Weights;
 use std::alloc::Global;
 use std::marker::Model;
 use std::test::Fail;
@@ -42,7 +41,7 @@ pub struct PoolCase {
 
 impl Model for PoolCase {
     ghost use Rattle.std.specs.Prelude.{◌≡◌, true};
-    ghost use Rattle.crush_select.specs.Weights.{weights_of};
+    ghost use Rattle.crush_choose.specs.Weights.{weights_of};
     ghost use Rattle.crush_pool.specs.Exceptions.{are_pairs};
     ghost use Rattle.crush_pool.specs.States.{flags_of, reweights};
     ghost use Rattle.crush_pool.specs.declared.pool.PoolParts.{PoolParts};

@@ -6,8 +6,8 @@ use Rattle.std.proofs.lemmas.List.FromFn.{get_or-map-range_with_len}
 use Rattle.crush_map.specs.Map.{Map}
 use Rattle.crush_map.specs.declared.draft.Rule.{Rule}
 use Rattle.crush_bucket.specs.Tables.{tables_of}
-use Rattle.crush_select.specs.Marks.{Slot}
-use Rattle.crush_select.specs.Weights.{weights_of}
+use Rattle.crush_choose.specs.Marks.{Slot}
+use Rattle.crush_choose.specs.Weights.{weights_of}
 use Rattle.crush_pool.specs.Placements.{rule_numbered}
 use Rattle.crush_pool.specs.Placers.{PoolOnMap, steps_in}
 use Rattle.crush_pool.specs.States.{flags_of, reweights}

@@ -9,7 +9,7 @@ use Rattle.std.proofs.lemmas.List.{map-append, take-append-drop, take_more}
 use Rattle.std.proofs.lemmas.List.Elements.{All-head, All-tail, filter-append, filter_agree}
 use Rattle.std.specs.List.{range_with_len}
 use Rattle.crush_bucket.specs.Tables.{tables_of}
-use Rattle.crush_select.specs.Weights.{weights_of}
+use Rattle.crush_choose.specs.Weights.{weights_of}
 use Rattle.crush_map.specs.Faults.{has_number}
 use Rattle.crush_pool.specs.Exceptions.{is_of_group, targets_of}
 use Rattle.crush_pool.specs.Placers.{PoolOnMap, steps_of}

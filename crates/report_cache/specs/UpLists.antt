@@ -1,6 +1,6 @@
 -- The up lists of all groups of a pool.
 use Rattle.std.specs.Prelude.{◌≡◌, List, map, option_map, Some}
-use Rattle.crush_select.specs.Marks.{Slot}
+use Rattle.crush_choose.specs.Marks.{Slot}
 use Rattle.crush_pool.specs.Placements.{rule_numbered}
 use Rattle.crush_pool.specs.Placers.{PoolOnMap}
 use Rattle.crush_report.specs.Reports.{groups, up_by}

@@ -2,7 +2,7 @@
 
 ghost use Rattle.std.specs.List.{range_with_len};
 ghost use Rattle.std.specs.Prelude.{◌≡◌, ◌≤◌, ◌*◌, Some, IfOk};
-ghost use Rattle.crush_select.specs.declared.limits.TheConstants.{SIZE_LIMIT};
+ghost use Rattle.crush_choose.specs.declared.select_limits.TheConstants.{SIZE_LIMIT};
 ghost use Rattle.crush_pool.specs.Placers.{PoolOnMap};
 ghost use Rattle.crush_pool.specs.declared.limits.TheConstants.{GROUP_LIMIT};
 ghost use Rattle.report_cache.specs.Private.Parts.{list_at};
@@ -15,8 +15,8 @@ use crate::up_lists::{UpLists, WORDS_KEPT};
 use crush_map::Listed;
 use crush_pool::Placer;
 use crush_report::{MoveRow, UpRun, move_between};
-use crush_select::Slot;
-use crush_select::limits::SIZE_LIMIT;
+use crush_choose::Slot;
+use crush_choose::select_limits::SIZE_LIMIT;
 use std::alloc::{AllocError, Global};
 
 /// Finds which of the first `count` groups of a pool have another up list than the one that is

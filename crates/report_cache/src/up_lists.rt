@@ -7,8 +7,8 @@ ghost use Rattle.report_cache.specs.Private.Parts.{AreEnds, parts_of, start_at};
 
 use crush_pool::{Placer, PoolParts};
 use crush_report::UpRun;
-use crush_select::Slot;
-use crush_select::limits::SIZE_LIMIT;
+use crush_choose::Slot;
+use crush_choose::select_limits::SIZE_LIMIT;
 use std::alloc::{AllocError, Global};
 use std::marker::Model;
 
@@ -30,7 +30,7 @@ pub struct UpLists {
 
 impl Model for UpLists {
     ghost use Rattle.std.specs.Prelude.{List, length};
-    ghost use Rattle.crush_select.specs.Marks.{Slot};
+    ghost use Rattle.crush_choose.specs.Marks.{Slot};
     ghost use Rattle.report_cache.specs.Private.Parts.{AreEnds, parts_of};
 
     ghost Value = { List (List Slot) };

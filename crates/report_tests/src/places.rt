@@ -6,7 +6,7 @@ use crate::rules::assert_rule;
 use crate::same::{assert_same, assert_same_at};
 use crush_pool::{Pair, Placer};
 use crush_report::{MoveRow, UsageRow, impact, moves, usage};
-use crush_select::Slot;
+use crush_choose::Slot;
 use pool_tests::maps::MapTables;
 use pool_tests::placing::{Placed, PoolCase};
 use pool_tests::pools::Short;

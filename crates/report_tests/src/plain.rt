@@ -2,7 +2,7 @@
 
 use crush_pool::{Pair, Placement, Placer};
 use crush_report::UsageRow;
-use crush_select::{Slot, Weights};
+use crush_choose::{Slot, Weights};
 use pool_tests::placing::{Placed, place_group};
 use std::alloc::Global;
 use std::test::Fail;

@@ -4,7 +4,7 @@ use crate::asking::{Asked, assert_that};
 use crate::counted::{Over, cached};
 use crush_map::ItemId;
 use crush_pool::Placement;
-use crush_select::Slot;
+use crush_choose::Slot;
 use std::alloc::Global;
 use std::process::Abort;
 use std::rc::Rc;

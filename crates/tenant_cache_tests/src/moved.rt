@@ -5,7 +5,7 @@ use crate::history::{Step, assert_histories};
 use crate::placed::{EXCEPTED, IMPORT_OF_TWO, NOT_EXCEPTED};
 use crate::touched::OUT;
 use crush_map::ItemId;
-use crush_select::Slot;
+use crush_choose::Slot;
 
 /// The body of an import of a map with two devices, of which the hash of a group chooses one.
 const IMPORT_OF_BOTH: &str =

@@ -1,7 +1,7 @@
 -- Changes of devices are read from a body exactly where the body has their form.
 use Rattle.std.proofs.Common.{◌≡◌, ℕ, ◌+◌, ◌||◌, List, [], ◌∷◌, ◌++◌, length, Bool, true, Option, Some, None, is_some, refl}
 use Rattle.std.specs.Prelude.{codes}
-use Rattle.crush_select.specs.declared.weights.TheConstants.{FULL}
+use Rattle.crush_choose.specs.declared.weights.TheConstants.{FULL}
 use Rattle.crush_map.specs.declared.limits.TheConstants.{NUMBER_LIMIT}
 use Rattle.crush_pool.proofs.ValidChanges.{AreValidChanges, Decides-are_valid_changes}
 use Rattle.crush_pool.specs.Changes.{are_valid_changes}

@@ -5,8 +5,8 @@ use Rattle.std.specs.List.{AllZip, list_all}
 use Rattle.std.specs.Option.{option_map_or}
 use Rattle.std.specs.Prelude.{codes}
 use Rattle.serde_json.specs.Data.{Data}
-use Rattle.crush_select.specs.Weights.{reweight_of}
-use Rattle.crush_select.specs.declared.weights.TheConstants.{FULL}
+use Rattle.crush_choose.specs.Weights.{reweight_of}
+use Rattle.crush_choose.specs.declared.weights.TheConstants.{FULL}
 use Rattle.crush_map.specs.declared.limits.TheConstants.{NUMBER_LIMIT}
 use Rattle.crush_pool.specs.States.{reweights}
 use Rattle.crush_pool.specs.declared.changes.DeviceChange.{DeviceChange}

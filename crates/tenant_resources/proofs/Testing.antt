@@ -1,7 +1,7 @@
 -- The body of the reply to a rule test.
 use Rattle.std.proofs.Common.{◌≡◌, ℕ, List, refl}
 use Rattle.crush_bucket.specs.Tables.{TablesView, tables_of}
-use Rattle.crush_select.specs.Marks.{Slot}
+use Rattle.crush_choose.specs.Marks.{Slot}
 use Rattle.crush_choose.specs.Rules.{rule_answer}
 use Rattle.crush_choose.specs.Trace.{rule_trace}
 use Rattle.crush_map.specs.Map.{Map}

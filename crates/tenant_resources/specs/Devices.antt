@@ -4,8 +4,8 @@ use Rattle.std.specs.List.{AllPairs, list_any, list_all}
 use Rattle.std.specs.Option.{option_map_or}
 use Rattle.serde_json.specs.Data.{Data, object}
 use Rattle.serde_json.specs.Find.{as_bool}
-use Rattle.crush_select.specs.Weights.{reweight_of}
-use Rattle.crush_select.specs.declared.weights.TheConstants.{FULL}
+use Rattle.crush_choose.specs.Weights.{reweight_of}
+use Rattle.crush_choose.specs.declared.weights.TheConstants.{FULL}
 use Rattle.crush_map.specs.Map.{Map}
 use Rattle.crush_map.specs.declared.limits.TheConstants.{NUMBER_LIMIT}
 use Rattle.crush_pool.specs.declared.limits.TheConstants.{CHANGE_LIMIT}

@@ -3,11 +3,11 @@
 use Rattle.std.specs.Prelude.{ℕ, ◌≤◌, ◌+◌, List, [], ◌∷◌, ◌++◌, map, nat_le, if◌then◌else◌, Option, Some, None, option_and_then, unwrap_or, codes}
 use Rattle.serde_json.specs.Data.{Data, object}
 use Rattle.crush_bucket.specs.Tables.{tables_of}
-use Rattle.crush_select.specs.Marks.{Slot}
+use Rattle.crush_choose.specs.Marks.{Slot}
 use Rattle.crush_choose.specs.Rules.{rule_answer}
 use Rattle.crush_choose.specs.Trace.{rule_trace}
-use Rattle.crush_select.specs.Weights.{weights_of}
-use Rattle.crush_select.specs.declared.limits.TheConstants.{SIZE_LIMIT}
+use Rattle.crush_choose.specs.Weights.{weights_of}
+use Rattle.crush_choose.specs.declared.select_limits.TheConstants.{SIZE_LIMIT}
 use Rattle.crush_map.specs.Map.{Map}
 use Rattle.crush_map.specs.declared.limits.TheConstants.{RULE_ID_LIMIT}
 use Rattle.crush_map.specs.declared.draft.Rule.{Rule}

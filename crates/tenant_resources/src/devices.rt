@@ -4,7 +4,7 @@ ghost use Rattle.std.specs.Prelude.{◌≡◌, ◌<◌, ◌≤◌, ◌^◌, fals
 ghost use Rattle.std.specs.List.{list_all};
 ghost use Rattle.serde_json.specs.View.{view, items_view};
 ghost use Rattle.serde_json.specs.Written.{has_float};
-ghost use Rattle.crush_select.specs.Weights.{reweight_of};
+ghost use Rattle.crush_choose.specs.Weights.{reweight_of};
 ghost use Rattle.crush_pool.specs.States.{is_up, reweights};
 ghost use Rattle.tenant_messages.specs.Json as json;
 ghost use Rattle.tenant_messages.specs.Reading.{Reads};
@@ -16,7 +16,7 @@ use crate::accepted::Accepted;
 use crush_map::limits::NUMBER_LIMIT;
 use crush_map::{Listed, Text};
 use crush_pool::{DeviceChange, DeviceState, are_valid_changes};
-use crush_select::FULL;
+use crush_choose::FULL;
 use serde_json::{Value, json};
 use std::alloc::{AllocError, Global};
 use tenant_messages::{

@@ -17,7 +17,7 @@ ghost use Rattle.tenant_rows.specs.Rows as spec;
 use crush_map::Text;
 use crush_map::limits::NUMBER_LIMIT;
 use crush_pool::DeviceState;
-use crush_select::FULL;
+use crush_choose::FULL;
 use std::alloc::{AllocError, Global};
 use std::rc::Rc;
 use table_reads::rows::{ReceiptRow, VersionRow};

@@ -9,7 +9,7 @@ ghost use Rattle.tenant_state.specs.State.{is_lower_device, with_state};
 use crate::size::size_of_states;
 use crush_content::SharedStates;
 use crush_pool::{DeviceState, DeviceStates, reweights_of};
-use crush_select::Weights;
+use crush_choose::Weights;
 use std::alloc::{AllocError, Global};
 use std::marker::Model;
 
@@ -26,7 +26,7 @@ pub struct Devices {
 
 impl Model for Devices {
     ghost use Rattle.std.specs.Prelude.{◌≡◌, ◌-◌, ◌^◌, List, min};
-    ghost use Rattle.crush_select.specs.Weights.{weights_of};
+    ghost use Rattle.crush_choose.specs.Weights.{weights_of};
     ghost use Rattle.crush_pool.specs.States.{flags_of, reweights};
     ghost use Rattle.crush_pool.specs.declared.states.DeviceState.{DeviceState};
     ghost use Rattle.tenant_state.specs.Size.{states_size};
@@ -44,7 +44,7 @@ impl Model for Devices {
 
 impl Devices {
     ghost use Rattle.std.specs.Prelude.{◌≡◌, ◌-◌, ◌^◌, [], IfOk, min};
-    ghost use Rattle.crush_select.specs.Weights.{weights_of};
+    ghost use Rattle.crush_choose.specs.Weights.{weights_of};
     ghost use Rattle.crush_pool.specs.States.{flags_of, reweights};
     ghost use Rattle.tenant_state.specs.Ordered.{if_ascending};
     ghost use Rattle.tenant_state.specs.Size.{states_size};

@@ -1,8 +1,8 @@
 -- Counts by the id of a device.
 use Rattle.std.specs.Prelude.{◌≡◌, ◌<◌, ◌+◌, ◌^◌, ◌&&◌, ℕ, Bool, true, false, List, [], ◌∷◌, Some, None, length, filter, is_some, max, slice_index_or, if◌then◌else◌}
 use Rattle.crush_map.specs.declared.draft.Device.{Device}
-use Rattle.crush_select.specs.Firstn.{has, slot_has}
-use Rattle.crush_select.specs.Marks.{Slot}
+use Rattle.crush_choose.specs.Firstn.{has, slot_has}
+use Rattle.crush_choose.specs.Marks.{Slot}
 use Rattle.crush_pool.specs.Placements.{primary_of}
 use Rattle.crush_pool.specs.Exceptions.{device_item}
 use Rattle.crush_report.specs.Usage.{entries_of, groups_of, primaries_of, entry_count, permille}

@@ -1,6 +1,6 @@
 -- Lists that stand one behind the other in one, by where each ends.
 use Rattle.std.specs.Prelude.{◌≤◌, ℕ, zero, suc, List, [], ◌∷◌, slice_index_or, slice_range}
-use Rattle.crush_select.specs.Marks.{Slot}
+use Rattle.crush_choose.specs.Marks.{Slot}
 
 -- the lists, of which the first begins at a start
 abbrev pub parts_of : List Slot → ℕ → List ℕ → List (List Slot)

@@ -1,6 +1,6 @@
 use Rattle.std.proofs.Common.{ap, List, true}
 use Rattle.crush_bucket.specs.Tables.{tables_of}
-use Rattle.crush_select.specs.Marks.{Slot}
+use Rattle.crush_choose.specs.Marks.{Slot}
 use Rattle.crush_choose.specs.Rules.{choose_call, leaf_tries, with_chosen}
 use Rattle.crush_choose.proofs.Devices.{leafless, step_same}
 use Rattle.crush_choose.proofs.laws.chooseleaf_of_devices_is_choose.Goals as goal

@@ -2,7 +2,7 @@ use Rattle.std.proofs.Common.{◌≡◌, ◌||◌, ◌++◌, ℕ, Bool, true, fa
 use Rattle.std.proofs.lemmas.List.Folds.{list_any-append}
 use Rattle.crush_map.specs.Faults.{has_number}
 use Rattle.crush_bucket.specs.Tables.{tables_of}
-use Rattle.crush_select.specs.Weights.{weights_of}
+use Rattle.crush_choose.specs.Weights.{weights_of}
 use Rattle.crush_choose.specs.Stability.{AreLoweredOutside}
 use Rattle.crush_choose.specs.Trace.{rule_trace}
 use Rattle.crush_pool.specs.Exceptions.{targets_of}

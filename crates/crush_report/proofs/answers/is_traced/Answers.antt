@@ -1,6 +1,6 @@
 use Rattle.std.proofs.Common.{refl}
 use Rattle.crush_bucket.specs.Tables.{tables_of}
-use Rattle.crush_select.specs.Weights.{weights_of}
+use Rattle.crush_choose.specs.Weights.{weights_of}
 use Rattle.crush_pool.specs.Placers.{steps_of}
 use Rattle.crush_pool.specs.Pools.{seed_of}
 use Rattle.crush_pool.specs.States.{reweights}

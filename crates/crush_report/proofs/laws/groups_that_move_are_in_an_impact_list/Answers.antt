@@ -3,7 +3,7 @@ use Rattle.crush_map.specs.Faults.{has_number}
 use Rattle.crush_bucket.specs.Tables.{tables_of}
 use Rattle.crush_choose.specs.Rules.{IsTrace}
 use Rattle.crush_choose.specs.Trace.{rule_trace}
-use Rattle.crush_select.specs.Weights.{weights_of}
+use Rattle.crush_choose.specs.Weights.{weights_of}
 use Rattle.crush_pool.specs.Exceptions.{targets_of}
 use Rattle.crush_pool.specs.Pools.{seed_of}
 use Rattle.crush_pool.specs.States.{flags_of, reweights}

@@ -1,6 +1,6 @@
 use Rattle.std.proofs.Common.{rules, arith, ◌≡◌, ◌≤◌, sym, ◌∙◌, true, false}
 use Rattle.crush_bucket.specs.Tables.{tables_of}
-use Rattle.crush_select.specs.Weights.{weights_of}
+use Rattle.crush_choose.specs.Weights.{weights_of}
 use Rattle.crush_pool.specs.Placers.{steps_of}
 use Rattle.crush_pool.specs.States.{reweights}
 use Rattle.crush_report.proofs.Groups.{touched_more}

@@ -2,7 +2,7 @@ use Rattle.std.proofs.Common.{◌≡◌, ◌||◌, ◌++◌, ◌∙◌, false, s
 use Rattle.std.specs.List.{list_any}
 use Rattle.crush_map.specs.Faults.{has_number}
 use Rattle.crush_bucket.specs.Tables.{tables_of}
-use Rattle.crush_select.specs.Weights.{weights_of}
+use Rattle.crush_choose.specs.Weights.{weights_of}
 use Rattle.crush_pool.specs.Exceptions.{is_of_group, targets_of}
 use Rattle.crush_pool.specs.Placers.{steps_of}
 use Rattle.crush_pool.specs.Pools.{seed_of}

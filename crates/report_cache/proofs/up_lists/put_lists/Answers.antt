@@ -1,6 +1,6 @@
 use Rattle.std.proofs.Common.{◌≡◌, ◌≤◌, ◌++◌, ◌∷◌, ◌∙◌, [], ℕ, List, length, map, ap, sym, arith, length-append}
 use Rattle.std.specs.List.{range_with_len}
-use Rattle.crush_select.specs.Marks.{Slot}
+use Rattle.crush_choose.specs.Marks.{Slot}
 use Rattle.crush_pool.specs.Placers.{PoolOnMap}
 use Rattle.crush_report.specs.OnMaps.{up_on}
 use Rattle.crush_report.proofs.Groups.{lists_more}

@@ -1,6 +1,6 @@
 use Rattle.std.proofs.Common.{◌∙◌, ap}
-use Rattle.crush_select.proofs.Reweights.{weight_of}
-use Rattle.crush_select.specs.Weights.{weight_at}
+use Rattle.crush_choose.proofs.Reweights.{weight_of}
+use Rattle.crush_choose.specs.Weights.{weight_at}
 use Rattle.crush_pool.specs.States.{reweights}
 use Rattle.tenant_resources.proofs.devices.reweight.Goals as goal
 

@@ -1,6 +1,6 @@
 use Rattle.std.proofs.Common.{◌≡◌, ◌<◌, ◌+◌, ℕ, List, drop, length, slice_index_or, ap, ◌∙◌, arith}
 use Rattle.std.proofs.lemmas.List.{get_or_default}
-use Rattle.crush_select.specs.Marks.{Slot}
+use Rattle.crush_choose.specs.Marks.{Slot}
 use Rattle.crush_pool.specs.Exceptions.{after_pair, after_pairs, excepted}
 use Rattle.crush_pool.specs.Private.Pairs.{first_from, no_pair}
 use Rattle.crush_pool.specs.declared.exceptions.Pair.{Pair}

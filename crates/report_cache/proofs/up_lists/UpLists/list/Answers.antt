@@ -1,6 +1,6 @@
 use Rattle.std.proofs.Common.{◌≡◌, ◌<◌, ◌≤◌, ◌∙◌, List, get_or, length, sym, ap}
 use Rattle.std.specs.Prelude.{slice_range}
-use Rattle.crush_select.specs.Marks.{Slot}
+use Rattle.crush_choose.specs.Marks.{Slot}
 use Rattle.report_cache.specs.Private.Parts.{list_at, start_at}
 use Rattle.report_cache.proofs.Parts.{none_past, ordered, part_at, within}
 use Rattle.report_cache.proofs.up_lists.UpLists.list.Goals as goal

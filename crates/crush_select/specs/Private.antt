@@ -1,5 +1,0 @@
--- What private clauses alone cite: what the code stores, and the bounds that it stays within. No
--- public clause rests on it.
-pub mod Walks
-pub mod Reachable
-pub mod Decisions
