@@ -4,19 +4,15 @@ ghost use Rattle.std.specs.Prelude.{◌≡◌, IfOk, true};
 ghost use Rattle.crush_writing.specs.Canonical.{canonical};
 ghost use Rattle.crush_pool.specs.Exceptions.{are_pairs};
 ghost use Rattle.crush_cache.specs.Caches.{KeepsNumbers, WasNumberOf};
-ghost use Rattle.crush_content.specs.Contents.{content_of};
+ghost use Rattle.crush_pool.specs.Contents.{content_of};
 ghost use Rattle.crush_choose.specs.Weights.{weights_of};
 ghost use Rattle.crush_pool.specs.States.{flags_of, reweights};
 
 use crate::same::assert_same;
 use crush_bucket::Tables;
 use crush_cache::PlacementCache;
-use crush_content::{Content, SharedExceptions, SharedStates, SharedText};
+use crush_pool::{Content, DeviceState, DeviceStates, Exceptions, Pair, Placement, Placer, Pool, PoolFault, PoolParts, SharedExceptions, SharedStates, SharedText, reweights_of};
 use crush_map::{CrushMap, ItemId, Text};
-use crush_pool::{
-    DeviceState, DeviceStates, Exceptions, Pair, Placement, Placer, Pool, PoolFault, PoolParts,
-    reweights_of,
-};
 use crush_choose::{Slot, Weights};
 use crush_text::write_map;
 use std::alloc::{AllocError, Global};

@@ -5,8 +5,8 @@ use Rattle.std.proofs.lemmas.List.Quantifiers.{position-Some}
 use Rattle.std.proofs.Math.ListN.{get_or-append}
 use Rattle.lru.proofs.Pairs.{slice_get-cut}
 use Rattle.crush_pool.specs.declared.placing.Placement.{Placement}
-use Rattle.crush_content.specs.Contents.{Content, content_eq}
-use Rattle.crush_content.specs.Laws.{content_decides}
+use Rattle.crush_pool.specs.Contents.{Content, content_eq}
+use Rattle.crush_pool.specs.Laws.{content_decides}
 use Rattle.crush_cache.specs.Caches.{IsNumberOf, Numbered, WasNumberOf}
 use Rattle.crush_cache.specs.Private.Entries.{AreNumbered, AreRight, IsPlacementIn, IsPlacementOf}
 use Rattle.crush_cache.specs.declared.entries.Key.{Key}

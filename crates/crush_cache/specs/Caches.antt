@@ -1,6 +1,6 @@
 -- What a cache knows: which contents are there, and their numbers.
 use Rattle.std.specs.Prelude.{◌≡◌, ℕ, ◌+◌, ◌-◌, ◌<◌, ◌≤◌, List, length, slice_get, Some}
-use Rattle.crush_content.specs.Contents.{Content}
+use Rattle.crush_pool.specs.Contents.{Content}
 
 -- the contents that are there: the first has the number `first`, the next the next number
 pub record Numbered : Type 0 where

@@ -4,9 +4,9 @@ ghost use Rattle.std.specs.Prelude.{◌≡◌, ◌+◌, ◌<◌, [], ℕ, Some, 
 ghost use Rattle.crush_map.specs.Map.{IsMap};
 ghost use Rattle.crush_pool.specs.Placements.{placement};
 ghost use Rattle.crush_cache.specs.Caches.{IsNumberOf, KeepsNumbers, WasNumberOf};
-ghost use Rattle.crush_content.specs.Contents.{Content, content_eq, content_of};
+ghost use Rattle.crush_pool.specs.Contents.{Content, content_eq, content_of};
 ghost use Rattle.crush_cache.specs.Private.Entries.{IsPlacementIn, IsPlacementOf};
-ghost use Rattle.crush_content.specs.declared.content.TheConstants.{LONG_TEXT};
+ghost use Rattle.crush_pool.specs.declared.content.TheConstants.{LONG_TEXT};
 ghost use Rattle.crush_cache.specs.declared.limits.TheConstants.{CONTENT_LIMIT};
 
 use crate::entries::{Entries, Key, keep, recall};
@@ -14,8 +14,7 @@ use crate::limits::CONTENT_LIMIT;
 use crate::seen::Seen;
 use crush_bucket::Scratch;
 use crush_choose::Out;
-use crush_content::Content;
-use crush_pool::{Placement, Placer, PoolFault};
+use crush_pool::{Content, Placement, Placer, PoolFault};
 use crush_text::canonical_texts_are_read;
 use lru::LruCache;
 use std::alloc::{AllocError, Global};

@@ -10,5 +10,5 @@ pub mod limits;
 mod seen;
 
 pub use cache::PlacementCache;
-pub use crush_content::{Content, SharedExceptions, SharedStates, SharedText};
+pub use crush_pool::{Content, SharedExceptions, SharedStates, SharedText};
 pub use entries::{Entries, Key};

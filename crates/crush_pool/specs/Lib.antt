@@ -6,3 +6,6 @@ pub mod Exceptions
 pub mod Placements
 pub mod Placers
 pub mod Private
+pub mod Contents
+pub mod Hashes
+pub mod Laws

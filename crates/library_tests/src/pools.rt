@@ -2,7 +2,7 @@
 
 ghost use Rattle.std.specs.Prelude.{◌≡◌, IfOk, is_some, true};
 ghost use Rattle.crush_bucket.specs.Tables.{tables_of};
-ghost use Rattle.crush_content.specs.Contents.{content_of};
+ghost use Rattle.crush_pool.specs.Contents.{content_of};
 ghost use Rattle.crush_pool.specs.Exceptions.{are_pairs};
 ghost use Rattle.crush_pool.specs.Placements.{rule_numbered};
 ghost use Rattle.crush_writing.specs.Canonical.{canonical};

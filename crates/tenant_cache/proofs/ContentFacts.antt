@@ -1,6 +1,6 @@
 -- What holds on a map holds on each map that has its text, since that is this map alone.
 use Rattle.std.proofs.Common.{◌≡◌, Option, Some, None, IfSome, subst, sym}
-use Rattle.crush_content.specs.Contents.{Content, content_of}
+use Rattle.crush_pool.specs.Contents.{Content, content_of}
 use Rattle.crush_map.specs.Map.{IsMap, Map}
 use Rattle.crush_pool.specs.Placers.{PoolOnMap}
 use Rattle.crush_text.specs.MapText.{IsTextOf}

@@ -11,7 +11,7 @@ use Rattle.crush_pool.specs.declared.placing.Placement.{Placement}
 use Rattle.crush_pool.specs.declared.pool.PoolParts.{PoolParts}
 use Rattle.crush_report.specs.Reports as reports
 use Rattle.crush_cache.specs.Caches.{KeepsNumbers, Numbered}
-use Rattle.crush_content.specs.Contents.{content_of}
+use Rattle.crush_pool.specs.Contents.{content_of}
 use Rattle.tenant_messages.specs.declared.reply.Problem.TheVariants.{NoRule}
 use Rattle.tenant_reports.specs.Impact as impact
 use Rattle.tenant_resources.specs.Groups as groups

@@ -1,6 +1,6 @@
 -- What is found of all groups of a pool and kept for one content.
 use Rattle.std.specs.Prelude.{◌≡◌, Option}
-use Rattle.crush_content.specs.Contents.{Content}
+use Rattle.crush_pool.specs.Contents.{Content}
 use Rattle.crush_map.specs.Map.{IsMap, Map}
 use Rattle.crush_pool.specs.Placers.{PoolOnMap}
 use Rattle.crush_writing.specs.Canonical.{canonical}

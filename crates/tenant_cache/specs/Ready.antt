@@ -1,7 +1,7 @@
 -- What is kept beside a store, and beside a cache of placements.
 use Rattle.std.specs.Prelude.{◌≡◌, ◌⊎◌, ℕ, List, Contains, Ok, Some}
 use Rattle.crush_cache.specs.Caches.{Numbered, WasNumberOf}
-use Rattle.crush_content.specs.Contents.{content_of}
+use Rattle.crush_pool.specs.Contents.{content_of}
 use Rattle.crush_pool.specs.Placers.{PoolOnMap}
 use Rattle.tenant_cache.specs.Kept.{Kept, Ready, kept_at}
 use Rattle.tenant_state.specs.State.{Inventory, TenantPool, on_newest, pool}

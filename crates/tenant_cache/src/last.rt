@@ -1,15 +1,14 @@
 //! What reports need of all groups of a pool, kept for the content that was asked for last.
 
 ghost use Rattle.std.specs.Prelude.{◌≡◌, true, IfOk, IfSome};
-ghost use Rattle.crush_content.specs.Contents.{content_of};
+ghost use Rattle.crush_pool.specs.Contents.{content_of};
 ghost use Rattle.crush_map.specs.Map.{IsMap};
 ghost use Rattle.crush_pool.specs.Placers.{PoolOnMap};
 
 use crate::bound::Bound;
 use crate::kept::Kept;
-use crush_content::Content;
+use crush_pool::{Content, Placer};
 use crush_map::Listed;
-use crush_pool::Placer;
 use crush_report::MoveRow;
 use crush_text::canonical_texts_are_read;
 use report_cache::{Touches, UpLists, moves_from};
@@ -69,7 +68,7 @@ impl<G: OfGroups> Model for Last<G> {
 
 impl<G: OfGroups> Last<G> {
     ghost use Rattle.std.specs.Prelude.{◌≡◌, true, IfOk};
-    ghost use Rattle.crush_content.specs.Contents.{content_of};
+    ghost use Rattle.crush_pool.specs.Contents.{content_of};
     ghost use Rattle.crush_map.specs.Map.{IsMap};
 
     /// Finds the value for the groups of the placer's pool, whose content is `content`.
@@ -111,7 +110,7 @@ impl<G: OfGroups> Last<G> {
 
 impl Last<Touches> {
     ghost use Rattle.std.specs.Prelude.{◌≡◌, Some, IfSome};
-    ghost use Rattle.crush_content.specs.Contents.{content_of};
+    ghost use Rattle.crush_pool.specs.Contents.{content_of};
     ghost use Rattle.crush_map.specs.Map.{IsMap};
     ghost use Rattle.crush_pool.specs.Placers.{PoolOnMap};
     ghost use Rattle.crush_report.specs.Reports.{impact};
@@ -133,7 +132,7 @@ impl Last<Touches> {
 
 impl Last<UpLists> {
     ghost use Rattle.std.specs.Prelude.{◌≡◌, ◌≤◌, ◌*◌, Some, IfSome};
-    ghost use Rattle.crush_content.specs.Contents.{content_of};
+    ghost use Rattle.crush_pool.specs.Contents.{content_of};
     ghost use Rattle.crush_choose.specs.declared.select_limits.TheConstants.{SIZE_LIMIT};
     ghost use Rattle.crush_map.specs.Map.{IsMap};
     ghost use Rattle.crush_pool.specs.Placers.{PoolOnMap};

@@ -1,7 +1,7 @@
 //! The values that are kept for reports of all groups of a pool, and what reports find in them.
 
 ghost use Rattle.std.specs.Prelude.{◌≡◌, ◌≤◌, ◌*◌, Some, IfSome};
-ghost use Rattle.crush_content.specs.Contents.{content_of};
+ghost use Rattle.crush_pool.specs.Contents.{content_of};
 ghost use Rattle.crush_map.specs.Map.{IsMap};
 ghost use Rattle.crush_choose.specs.declared.select_limits.TheConstants.{SIZE_LIMIT};
 ghost use Rattle.crush_pool.specs.declared.limits.TheConstants.{GROUP_LIMIT};
@@ -12,9 +12,8 @@ ghost use Rattle.tenant_core.specs.Cached.{Asks, IsCachedFor};
 use crate::bound::Bound;
 use crate::kept::Kept;
 use crate::last::{Last, is_left, is_of_tenant, renew};
-use crush_content::Content;
+use crush_pool::{Content, Placer};
 use crush_map::Listed;
-use crush_pool::Placer;
 use crush_report::MoveRow;
 use report_cache::{Touches, UpLists};
 use std::alloc::Global;

@@ -15,9 +15,8 @@ ghost use Rattle.table_reads.specs.Found.{pool_values};
 ghost use Rattle.tenant_rows.specs.Rows as spec;
 
 use crate::parts::{flag, natural};
-use crush_content::SharedExceptions;
+use crush_pool::{Exceptions, Pair, Pool, PoolParts, SharedExceptions};
 use crush_map::Text;
-use crush_pool::{Exceptions, Pair, Pool, PoolParts};
 use std::alloc::{AllocError, Global};
 use std::rc::Rc;
 use table_reads::rows::PoolRow;

@@ -4,8 +4,7 @@ ghost use Rattle.std.specs.Prelude.{◌≡◌, nat_lt};
 ghost use Rattle.std.specs.List.{list_all};
 
 use crate::size::size_of_pool;
-use crush_content::SharedExceptions;
-use crush_pool::{Exceptions, Pair, Pool, PoolParts};
+use crush_pool::{Exceptions, Pair, Pool, PoolParts, SharedExceptions};
 use std::alloc::{AllocError, Global};
 use std::marker::Model;
 use std::rc::Rc;

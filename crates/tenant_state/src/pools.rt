@@ -7,8 +7,7 @@ ghost use Rattle.tenant_state.specs.State.{is_lower_pool};
 
 use crate::pool::TenantPool;
 use crate::size::size_of_pools;
-use crush_content::SharedExceptions;
-use crush_pool::Pool;
+use crush_pool::{Pool, SharedExceptions};
 use std::alloc::{AllocError, Global};
 use std::marker::Model;
 use std::rc::Rc;

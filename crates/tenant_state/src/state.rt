@@ -7,9 +7,8 @@ use crate::receipts::{Receipt, Receipts};
 use crate::size::{INVENTORY_BYTES, plus};
 use crate::version::Version;
 use crate::versions::Versions;
-use crush_content::{Content, SharedExceptions};
+use crush_pool::{Content, DeviceState, Placer, Pool, SharedExceptions, rule_with_id};
 use crush_map::{CrushMap, Listed, Text};
-use crush_pool::{DeviceState, Placer, Pool, rule_with_id};
 use std::alloc::{AllocError, Global};
 use std::marker::Model;
 use std::rc::Rc;
@@ -79,7 +78,7 @@ impl Model for Inventory {
 
 impl Inventory {
     ghost use Rattle.std.specs.Prelude.{◌≡◌, ◌<◌, ◌-◌, ◌^◌, [], IfOk, map, min, option_map, true};
-    ghost use Rattle.crush_content.specs.Contents.{content_of};
+    ghost use Rattle.crush_pool.specs.Contents.{content_of};
     ghost use Rattle.crush_map.specs.Map.{IsMap};
     ghost use Rattle.tenant_state.specs.Made.{made_of};
     ghost use Rattle.tenant_state.specs.Size.{size};

@@ -5,7 +5,7 @@ use Rattle.crush_writing.specs.Canonical.{canonical}
 use Rattle.crush_pool.specs.Placements.{placement}
 use Rattle.crush_pool.specs.declared.placing.Placement.{Placement}
 use Rattle.crush_cache.specs.Caches.{IsNumberOf, Numbered}
-use Rattle.crush_content.specs.Contents.{Content}
+use Rattle.crush_pool.specs.Contents.{Content}
 use Rattle.crush_cache.specs.declared.entries.Key.{Key}
 use Rattle.crush_cache.specs.declared.limits.TheConstants.{CONTENT_LIMIT}
 

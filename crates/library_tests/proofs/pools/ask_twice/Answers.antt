@@ -1,6 +1,6 @@
 -- The content has what the placer has.
 use Rattle.std.proofs.Common.{◌≡◌, ◌∙◌, Option, Some, None, ap, option_map, sym}
-use Rattle.crush_content.specs.Contents.{Content, content_of}
+use Rattle.crush_pool.specs.Contents.{Content, content_of}
 use Rattle.crush_map.specs.declared.draft.Rule.{Rule}
 use Rattle.crush_pool.specs.Placers.{PoolOnMap}
 use Rattle.crush_writing.specs.Canonical.{canonical}

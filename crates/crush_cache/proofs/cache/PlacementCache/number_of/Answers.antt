@@ -1,5 +1,5 @@
 use Rattle.std.proofs.Common.{◌≡◌, ◌+◌, Some, position, ap, refl, sym, ◌∙◌}
-use Rattle.crush_content.specs.Contents.{content_eq}
+use Rattle.crush_pool.specs.Contents.{content_eq}
 use Rattle.crush_cache.proofs.Found.{some_weaker}
 use Rattle.crush_cache.proofs.Numbers.{never, number_of-found, some_one, was_number}
 use Rattle.crush_cache.proofs.cache.PlacementCache.number_of.Goals as goal

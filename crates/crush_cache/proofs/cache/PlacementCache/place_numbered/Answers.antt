@@ -1,6 +1,6 @@
 use Rattle.std.proofs.Common.{refl, subst, sym}
 use Rattle.crush_cache.specs.Caches.{IsNumberOf}
-use Rattle.crush_content.specs.Contents.{content_of}
+use Rattle.crush_pool.specs.Contents.{content_of}
 use Rattle.crush_cache.proofs.cache.PlacementCache.place_numbered.Goals as goal
 
 pub returns-in-Some-clause-placed : goal.returns-in-Some-clause-placed

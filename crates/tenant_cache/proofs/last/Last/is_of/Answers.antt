@@ -1,5 +1,5 @@
 use Rattle.std.proofs.Common.{◌≡◌, ◌∙◌, ap, sym}
-use Rattle.crush_content.specs.Laws.{content_decides}
+use Rattle.crush_pool.specs.Laws.{content_decides}
 use Rattle.tenant_cache.specs.Last.{OfContent}
 use Rattle.tenant_cache.proofs.last.Last.is_of.Goals as goal
 

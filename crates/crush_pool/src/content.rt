@@ -2,13 +2,13 @@
 
 ghost use Rattle.std.specs.Prelude.{◌≡◌};
 ghost use Rattle.crush_pool.specs.declared.pool.PoolParts.{PoolParts};
-ghost use Rattle.crush_content.specs.Hashes.{joined_hash};
+ghost use Rattle.crush_pool.specs.Hashes.{joined_hash};
 
-use crate::exceptions::SharedExceptions;
+use crate::content_exceptions::SharedExceptions;
 use crate::pools::{feed_pool, is_same_pool};
-use crate::states::SharedStates;
+use crate::content_states::SharedStates;
 use crate::text::SharedText;
-use crush_pool::Pool;
+use crate::Pool;
 use std::alloc::AllocError;
 use std::hash::{FoldHasher, Hash, Hasher};
 use std::marker::Model;
@@ -32,7 +32,7 @@ pub struct Content {
 
 impl Model for Content {
     ghost use Rattle.std.specs.Prelude.{◌≡◌};
-    ghost use Rattle.crush_content.specs.Contents.{Content, content_hash};
+    ghost use Rattle.crush_pool.specs.Contents.{Content, content_hash};
 
     ghost Value = { Content };
 
@@ -55,8 +55,8 @@ fn hash_of(text: u64, states: u64, pairs: u64, pool: &Pool) -> u64
 
 impl Content {
     ghost use Rattle.std.specs.Prelude.{◌≡◌, IfOk, length, nat_le};
-    ghost use Rattle.crush_content.specs.Contents.{content_eq};
-    ghost use Rattle.crush_content.specs.declared.content.TheConstants.{LONG_TEXT};
+    ghost use Rattle.crush_pool.specs.Contents.{content_eq};
+    ghost use Rattle.crush_pool.specs.declared.content.TheConstants.{LONG_TEXT};
 
     /// Makes the content of a text, states, a pool and its exceptions, which it shares. Takes no
     /// memory, and time that doesn't depend on the lengths of the text, of the states and of the
@@ -112,8 +112,8 @@ impl Content {
 }
 
 impl PartialEq for Content {
-    ghost use Rattle.crush_content.specs.Contents.{content_eq};
-    ghost use Rattle.crush_content.specs.Laws.{content_laws};
+    ghost use Rattle.crush_pool.specs.Contents.{content_eq};
+    ghost use Rattle.crush_pool.specs.Laws.{content_laws};
 
     ghost eq = { content_eq };
 
@@ -126,14 +126,14 @@ impl PartialEq for Content {
 }
 
 impl Eq for Content {
-    ghost use Rattle.crush_content.specs.Laws.{content_laws};
+    ghost use Rattle.crush_pool.specs.Laws.{content_laws};
 
     ghost laws = { content_laws.1 };
 }
 
 impl Hash for Content {
-    ghost use Rattle.crush_content.specs.Contents.{content_writes};
-    ghost use Rattle.crush_content.specs.Laws.{content_respects};
+    ghost use Rattle.crush_pool.specs.Contents.{content_writes};
+    ghost use Rattle.crush_pool.specs.Laws.{content_respects};
 
     ghost hash_input = { content_writes };
 

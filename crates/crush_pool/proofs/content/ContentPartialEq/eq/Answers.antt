@@ -1,7 +1,7 @@
 use Rattle.std.proofs.Common.{◌∙◌, ap, sym, ne_eqb}
-use Rattle.crush_content.specs.Contents.{content_hash}
-use Rattle.crush_content.specs.Laws.{hashes_differ}
-use Rattle.crush_content.proofs.content.ContentPartialEq.eq.Goals as goal
+use Rattle.crush_pool.specs.Contents.{content_hash}
+use Rattle.crush_pool.specs.Laws.{hashes_differ}
+use Rattle.crush_pool.proofs.content.ContentPartialEq.eq.Goals as goal
 
 pub returns-else-self-other : goal.returns-else-self-other
 returns-else-self-other c =

@@ -1,10 +1,10 @@
 //! When pools are the same, and what of them is hashed.
 
 ghost use Rattle.std.specs.Prelude.{◌≡◌};
-ghost use Rattle.crush_content.specs.Hashes.{fed_with, pool_writes};
-ghost use Rattle.crush_content.specs.Contents.{pool_eq};
+ghost use Rattle.crush_pool.specs.Hashes.{fed_with, pool_writes};
+ghost use Rattle.crush_pool.specs.Contents.{pool_eq};
 
-use crush_pool::Pool;
+use crate::Pool;
 use std::hash::{FoldHasher, Hash, Hasher};
 
 /// Returns whether all settings of two pools are the same.

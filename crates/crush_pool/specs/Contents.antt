@@ -9,7 +9,7 @@ use Rattle.crush_pool.specs.Placers.{PoolOnMap}
 use Rattle.crush_pool.specs.declared.exceptions.Pair.{Pair}
 use Rattle.crush_pool.specs.declared.pool.PoolParts.{PoolParts}
 use Rattle.crush_pool.specs.declared.states.DeviceState.{DeviceState}
-use Rattle.crush_content.specs.Hashes.{joined_hash, pairs_hash, states_hash, text_hash}
+use Rattle.crush_pool.specs.Hashes.{joined_hash, pairs_hash, states_hash, text_hash}
 
 -- the canonical text of a map, all states of devices, a pool, and the pool's pairs
 pub record Content : Type 0 where

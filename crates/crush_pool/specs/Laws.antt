@@ -8,7 +8,7 @@ use Rattle.std.specs.Cmp.Lexicographic.{bytes_decides, pointwise_decides}
 use Rattle.crush_pool.specs.declared.exceptions.Pair.{Pair}
 use Rattle.crush_pool.specs.declared.pool.PoolParts.{PoolParts}
 use Rattle.crush_pool.specs.declared.states.DeviceState.{DeviceState}
-use Rattle.crush_content.specs.Contents.{Content, content_eq, content_hash, content_writes, pair_eq, pool_eq, state_eq}
+use Rattle.crush_pool.specs.Contents.{Content, content_eq, content_hash, content_writes, pair_eq, pool_eq, state_eq}
 
 pub state_decides : (s t : DeviceState) → Decides (state_eq s t) (s ≡ t)
 state_decides s t =

@@ -1,9 +1,9 @@
 //! States of devices that are shared, with their hash.
 
 ghost use Rattle.std.specs.Prelude.{◌≡◌};
-ghost use Rattle.crush_content.specs.Hashes.{fed_with, state_writes, states_hash};
+ghost use Rattle.crush_pool.specs.Hashes.{fed_with, state_writes, states_hash};
 
-use crush_pool::DeviceState;
+use crate::DeviceState;
 use std::alloc::AllocError;
 use std::hash::{FoldHasher, Hash, Hasher};
 use std::marker::Model;
@@ -22,7 +22,7 @@ impl Model for SharedStates {
     ghost use Rattle.std.specs.Prelude.{◌≡◌, List};
     ghost use Rattle.std.specs.Rc.{rc_slice_items};
     ghost use Rattle.crush_pool.specs.declared.states.DeviceState.{DeviceState};
-    ghost use Rattle.crush_content.specs.Hashes.{states_hash};
+    ghost use Rattle.crush_pool.specs.Hashes.{states_hash};
 
     ghost Value = { List DeviceState };
 
@@ -53,7 +53,7 @@ fn hash_of(states: &[DeviceState]) -> u64
 
 impl SharedStates {
     ghost use Rattle.std.specs.Prelude.{◌≡◌, IfOk};
-    ghost use Rattle.crush_content.specs.Hashes.{states_hash};
+    ghost use Rattle.crush_pool.specs.Hashes.{states_hash};
 
     /// Makes states that can be shared. Takes time linear in their number, for the hash.
     /// `Err(AllocError)`: an allocation failed; the list is dropped.

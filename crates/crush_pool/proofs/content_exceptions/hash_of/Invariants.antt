@@ -1,8 +1,8 @@
 use Rattle.std.proofs.Common.{◌≡◌, drop}
 use Rattle.std.specs.Hash.FoldHasher as folding
 use Rattle.std.specs.List.{flat_map}
-use Rattle.crush_content.specs.Hashes.{fed_with, pair_writes}
-use Rattle.crush_content.proofs.exceptions.hash_of.Given as goal
+use Rattle.crush_pool.specs.Hashes.{fed_with, pair_writes}
+use Rattle.crush_pool.proofs.content_exceptions.hash_of.Given as goal
 
 -- the remaining pairs are fed to what the pairs so far made
 abbrev pub invariant-loop-pair : goal.invariant-loop-pair

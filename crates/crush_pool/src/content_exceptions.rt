@@ -1,9 +1,9 @@
 //! Exceptions of a pool that are shared, with their hash.
 
 ghost use Rattle.std.specs.Prelude.{◌≡◌};
-ghost use Rattle.crush_content.specs.Hashes.{fed_with, pair_writes, pairs_hash};
+ghost use Rattle.crush_pool.specs.Hashes.{fed_with, pair_writes, pairs_hash};
 
-use crush_pool::{Exceptions, Pair};
+use crate::{Exceptions, Pair};
 use std::alloc::{AllocError, Global};
 use std::hash::{FoldHasher, Hash, Hasher};
 use std::marker::Model;
@@ -21,7 +21,7 @@ pub struct SharedExceptions {
 impl Model for SharedExceptions {
     ghost use Rattle.std.specs.Prelude.{◌≡◌, List};
     ghost use Rattle.crush_pool.specs.declared.exceptions.Pair.{Pair};
-    ghost use Rattle.crush_content.specs.Hashes.{pairs_hash};
+    ghost use Rattle.crush_pool.specs.Hashes.{pairs_hash};
 
     ghost Value = { List Pair };
 
@@ -53,8 +53,8 @@ fn hash_of(pairs: &[Pair]) -> u64
 impl SharedExceptions {
     ghost use Rattle.std.specs.Prelude.{◌≡◌, IfOk};
     ghost use Rattle.std.specs.Cmp.Lexicographic.{pointwise};
-    ghost use Rattle.crush_content.specs.Contents.{pair_eq};
-    ghost use Rattle.crush_content.specs.Hashes.{pairs_hash};
+    ghost use Rattle.crush_pool.specs.Contents.{pair_eq};
+    ghost use Rattle.crush_pool.specs.Hashes.{pairs_hash};
 
     /// Makes exceptions that can be shared. Takes time linear in the number of pairs, for the hash.
     /// `Err(AllocError)`: an allocation failed; the exceptions are dropped.

@@ -1,7 +1,7 @@
 //! Texts that are shared, with their hash.
 
 ghost use Rattle.std.specs.Prelude.{◌≡◌};
-ghost use Rattle.crush_content.specs.Hashes.{text_hash};
+ghost use Rattle.crush_pool.specs.Hashes.{text_hash};
 
 use std::alloc::{AllocError, Global};
 use std::hash::{FoldHasher, Hash, Hasher};
@@ -19,7 +19,7 @@ pub struct SharedText {
 impl Model for SharedText {
     ghost use Rattle.std.specs.Prelude.{◌≡◌, List, ℕ};
     ghost use Rattle.std.specs.Rc.{rc_str_bytes};
-    ghost use Rattle.crush_content.specs.Hashes.{text_hash};
+    ghost use Rattle.crush_pool.specs.Hashes.{text_hash};
 
     ghost Value = { List ℕ };
 
@@ -39,7 +39,7 @@ fn hash_of(text: &str) -> u64
 
 impl SharedText {
     ghost use Rattle.std.specs.Prelude.{◌≡◌, IfOk, string_bytes, bytes_eq};
-    ghost use Rattle.crush_content.specs.Hashes.{text_hash};
+    ghost use Rattle.crush_pool.specs.Hashes.{text_hash};
 
     /// Makes the text of a string, which it holds. Takes time linear in its length, for the hash.
     /// `Err(AllocError)`: an allocation failed; the string is dropped.
