@@ -15,3 +15,6 @@ pub mod CsvTexts
 pub mod Reached
 pub mod ReadBack
 pub mod DeviceForms
+mod Lists
+mod Parts
+mod Touching

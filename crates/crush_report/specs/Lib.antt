@@ -6,3 +6,5 @@ pub mod OnMaps
 pub mod Csv
 pub mod DeviceCsv
 pub mod Private
+pub mod Touches
+pub mod UpLists

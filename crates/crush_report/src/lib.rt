@@ -17,6 +17,9 @@ mod touched_groups;
 mod up_runs;
 mod usage_counts;
 pub mod usage_laws;
+mod moved_from;
+mod touches;
+mod up_lists;
 
 pub use crush_pool::{DeviceChange, are_valid_changes};
 pub use csv_laws::{device_csvs_are_of_the_form, reports_are_read_back};
@@ -28,3 +31,6 @@ pub use rows::{MoveRow, UsageRow};
 pub use touched_groups::impact_with;
 pub use up_runs::UpRun;
 pub use usage_counts::usage_with;
+pub use moved_from::moves_from;
+pub use touches::{TOUCH_LIMIT, Touch, Touches};
+pub use up_lists::{SLOT_LIMIT, UpLists};

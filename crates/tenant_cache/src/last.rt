@@ -9,9 +9,8 @@ use crate::bound::Bound;
 use crate::kept::Kept;
 use crush_pool::{Content, Placer};
 use crush_map::Listed;
-use crush_report::MoveRow;
+use crush_report::{MoveRow, Touches, UpLists, moves_from};
 use crush_text::canonical_texts_are_read;
-use report_cache::{Touches, UpLists, moves_from};
 use std::alloc::{AllocError, Global};
 use std::marker::Model;
 
@@ -27,7 +26,7 @@ pub trait OfGroups: Drop {
 }
 
 impl OfGroups for Touches {
-    ghost use Rattle.report_cache.specs.Touches.{AreTouchesOn};
+    ghost use Rattle.crush_report.specs.Touches.{AreTouchesOn};
 
     ghost are_on = { AreTouchesOn };
 
@@ -37,7 +36,7 @@ impl OfGroups for Touches {
 }
 
 impl OfGroups for UpLists {
-    ghost use Rattle.report_cache.specs.UpLists.{AreUpListsOn};
+    ghost use Rattle.crush_report.specs.UpLists.{AreUpListsOn};
 
     ghost are_on = { AreUpListsOn };
 

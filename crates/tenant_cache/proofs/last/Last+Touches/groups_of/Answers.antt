@@ -1,6 +1,6 @@
 use Rattle.std.proofs.Common.{◌≡◌, ◌∙◌, Some, IfSome, refl, ap, subst}
 use Rattle.crush_pool.specs.Contents.{Content, content_of}
-use Rattle.report_cache.specs.Touches.{AreTouchesOn}
+use Rattle.crush_report.specs.Touches.{AreTouchesOn}
 use Rattle.tenant_cache.specs.Last.{IsOf, OfContent}
 use Rattle.tenant_cache.proofs.last.Last+Touches.groups_of.Goals as goal
 

@@ -1,6 +1,0 @@
-use Rattle.std.proofs.Common.{◌≡◌, ◌++◌, take}
-use Rattle.report_cache.specs.Private.Touching.{touches_of}
-use Rattle.report_cache.proofs.touches.add_pairs.Given as goal
-
-abbrev pub invariant-loop-device : goal.invariant-loop-device
-invariant-loop-device l = l.pairs.items ≡ l.initial.pairs.items ++ touches_of l.group (take l.device-index l.devices)

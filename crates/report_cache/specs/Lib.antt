@@ -1,3 +1,0 @@
-pub mod Touches
-pub mod UpLists
-pub mod Private

@@ -1,3 +1,0 @@
--- What private clauses alone cite: how the code works. No public clause depends on it.
-pub mod Parts
-pub mod Touching
