@@ -12,8 +12,8 @@ use Rattle.sqlite.specs.Effect.{Database}
 use Rattle.sqlite.specs.Listing.{understood, reads_listing, IsSourceOf}
 use Rattle.sqlite.specs.State.{State, HasCleanDisk, Survives, FailsToQuery, IsNotRun, Fails, HasCause, store_error}
 use Rattle.sqlite.specs.declared.error.Error.{Error}
-use Rattle.store_faults.specs.declared.StoreFault.{StoreFault}
-use Rattle.store_faults.specs.declared.StoreFault.TheVariants as fault
+use Rattle.tenant_messages.specs.declared.StoreFault.{StoreFault}
+use Rattle.tenant_messages.specs.declared.StoreFault.TheVariants as fault
 use Rattle.table_schema.specs.Refused.{IsLost, IsMemory, Reports}
 use Rattle.table_schema.specs.declared.refuse.Sight.{Sight}
 use Rattle.table_schema.specs.declared.refuse.Sight.TheVariants.{Open, Unseen, Lost}

@@ -3,7 +3,7 @@
 ghost use Rattle.std.specs.Prelude.{◌≡◌, ◌≢◌, ◌↔◌};
 
 use std::alloc::AllocError;
-use store_faults::StoreFault;
+use tenant_messages::StoreFault;
 use table_schema::refuse::Sight;
 
 /// Why a read did not answer.

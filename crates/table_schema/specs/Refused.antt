@@ -5,8 +5,8 @@ use Rattle.sqlite.specs.State.{State as Shown}
 use Rattle.sqlite.specs.declared.error.Error.{Error}
 use Rattle.sqlite.specs.declared.error.Error.TheVariants.{SqliteFailure}
 use Rattle.sqlite.specs.declared.error.ErrorCode.TheVariants.{OutOfMemory, DiskFull, NoRowid}
-use Rattle.store_faults.specs.declared.StoreFault.{StoreFault}
-use Rattle.store_faults.specs.declared.StoreFault.TheVariants.{NoMemory, Full, Damaged}
+use Rattle.tenant_messages.specs.declared.StoreFault.{StoreFault}
+use Rattle.tenant_messages.specs.declared.StoreFault.TheVariants.{NoMemory, Full, Damaged}
 
 -- An allocation failed.
 abbrev pub IsMemory : Error → Type 0

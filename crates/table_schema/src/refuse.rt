@@ -7,7 +7,7 @@ ghost use Rattle.table_schema.specs.Ready.{Rests};
 ghost use Rattle.table_schema.specs.Refused.{IsFull, IsLost, IsMemory, Reports};
 
 use sqlite::{Alter, Connection, Error, ErrorCode};
-use store_faults::StoreFault;
+use tenant_messages::StoreFault;
 
 /// What a look at the connection found, after a statement was refused.
 #[derive(Clone, Copy, Debug, PartialEq, Eq)]

@@ -12,7 +12,7 @@ use Rattle.tenant_core.specs.declared.limits.TheConstants.{BODY_LIMIT}
 use Rattle.tenant_core.specs.Request.{Request, tenant_in, on_route, on_target, request_of}
 use Rattle.tenant_core.specs.declared.route.Route.{Route}
 use Rattle.tenant_state.specs.State.{TenantState}
-use Rattle.store_faults.specs.declared.StoreFault.{StoreFault}
+use Rattle.tenant_messages.specs.declared.StoreFault.{StoreFault}
 use Rattle.tenant_messages.specs.Reply.{refused, reply}
 use Rattle.tenant_core.specs.Route.{read, route_of}
 use Rattle.tenant_core.specs.Router.{target_of}

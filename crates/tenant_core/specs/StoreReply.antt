@@ -5,8 +5,8 @@ use Rattle.tenant_core.specs.Request.{request_of, Request}
 use Rattle.tenant_messages.specs.declared.call.Call.{Call}
 use Rattle.tenant_messages.specs.declared.reply.Problem.{Problem}
 use Rattle.tenant_messages.specs.declared.reply.Reply.{Reply}
-use Rattle.store_faults.specs.declared.StoreFault.{StoreFault}
-use Rattle.store_faults.specs.declared.StoreFault.TheVariants.{NoMemory, Full, Damaged, Failed}
+use Rattle.tenant_messages.specs.declared.StoreFault.{StoreFault}
+use Rattle.tenant_messages.specs.declared.StoreFault.TheVariants.{NoMemory, Full, Damaged, Failed}
 
 abbrev pub no_memory : Reply
 no_memory = out_of_memory

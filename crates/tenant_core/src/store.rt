@@ -13,8 +13,7 @@ use crate::cached::Cached;
 use crate::queries::Query;
 use std::alloc::{AllocError, Global};
 use std::rc::Rc;
-use store_faults::StoreFault;
-use tenant_messages::{Reply, error, no_memory, written};
+use tenant_messages::{Reply, StoreFault, error, no_memory, written};
 use tenant_state::{Change, Inventory, Receipt};
 
 /// A store of tenants' states by name. It holds the allocator that its constructor was given.

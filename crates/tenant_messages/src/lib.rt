@@ -8,6 +8,7 @@ pub mod limits;
 mod pieces;
 mod reply;
 mod slots;
+mod store_fault;
 
 pub use call::{Bytes, Call, CallParts};
 pub use json::{
@@ -20,3 +21,4 @@ pub use reply::{
     success, written,
 };
 pub use slots::{ids_json, slot_json, slots_json};
+pub use store_fault::StoreFault;

@@ -13,8 +13,8 @@ use Rattle.table_schema.specs.Values.{state_row, exception_row}
 use Rattle.table_reads.specs.Found.{Lists, ListsBy, Precedes, IsVersionRow, IsStateRow, IsPoolRow, IsExceptionRow, version_values, pool_values}
 use Rattle.table_schema.specs.Holds.{of_tenant}
 use Rattle.table_schema.specs.Layout.{maps_table, devices_table, pools_table, exceptions_table}
-use Rattle.store_faults.specs.declared.StoreFault.{StoreFault}
-use Rattle.store_faults.specs.declared.StoreFault.TheVariants.{Failed}
+use Rattle.tenant_messages.specs.declared.StoreFault.{StoreFault}
+use Rattle.tenant_messages.specs.declared.StoreFault.TheVariants.{Failed}
 use Rattle.table_reads.specs.declared.find.Tenant.{Tenant}
 use Rattle.table_reads.specs.declared.rows.PoolRow.{PoolRow}
 use Rattle.table_reads.specs.declared.rows.VersionRow.{VersionRow}

@@ -27,7 +27,7 @@ use Rattle.table_schema.specs.Layout.{receipts_table}
 use Rattle.table_schema.specs.Holds.{of_tenant}
 use Rattle.table_reads.specs.Found.{IsRising, IsReceiptRow, Lists, Begins, rows_above, receipt_values}
 use Rattle.table_reads.specs.declared.rows.ReceiptRow.{ReceiptRow}
-use Rattle.store_faults.specs.declared.StoreFault.{StoreFault}
+use Rattle.tenant_messages.specs.declared.StoreFault.{StoreFault}
 use Rattle.table_reads.proofs.Rising.{below_text, below_text_back}
 use Rattle.table_reads.specs.declared.find.Tenant.{Tenant}
 use Rattle.tenant_rows.specs.Changes.{HasReceipts}

@@ -12,7 +12,7 @@ ghost use Rattle.tenant_rows.specs.Pages.{AreReceipts, IsOfReceipt, IsTail, Leav
 
 use crate::parts::is_receipt_row;
 use sqlite::Alter;
-use store_faults::StoreFault;
+use tenant_messages::StoreFault;
 use table_reads::find::Tenant;
 use table_reads::pages::PAGE;
 use table_reads::rows::ReceiptRow;

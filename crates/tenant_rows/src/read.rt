@@ -12,7 +12,7 @@ use crush_text::canonical_texts_are_ascii;
 use sqlite::Alter;
 use std::alloc::Global;
 use std::rc::Rc;
-use store_faults::StoreFault;
+use tenant_messages::StoreFault;
 use table_reads::find::Tenant;
 use tenant_state::Inventory;
 use tenant_tables::tables::Tables;

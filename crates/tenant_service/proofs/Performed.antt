@@ -6,7 +6,7 @@ use Rattle.tenant_core.specs.Request.{Request}
 use Rattle.tenant_core.specs.States.{Damaged, Found, HasState, IsDamaged, LeavesAsItWas, LeavesAsItWasOr, Outcomes, Same, Shows, States}
 use Rattle.tenant_core.specs.Step.{decision}
 use Rattle.tenant_core.specs.declared.decision.Decision.{Decision}
-use Rattle.store_faults.specs.declared.StoreFault.{StoreFault}
+use Rattle.tenant_messages.specs.declared.StoreFault.{StoreFault}
 use Rattle.tenant_messages.specs.Reply.{reply}
 use Rattle.tenant_messages.specs.declared.reply.Reply.{Reply}
 use Rattle.tenant_state.specs.State.{TenantState}

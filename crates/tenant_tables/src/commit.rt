@@ -12,7 +12,7 @@ use crate::tables::Tables;
 use crate::write::Write;
 use sqlite::Alter;
 use std::alloc::{AllocError, Global};
-use store_faults::StoreFault;
+use tenant_messages::StoreFault;
 use table_schema::values::{Exception, Pool, Receipt, State};
 
 /// What each accepted change writes beside what it made: the number of its tenant, the tenant's new

@@ -15,7 +15,7 @@ ghost use Rattle.tenant_tables.specs.Opened.{HasVersion, SaysVersion, IsKnown, I
 use crate::write::{Write, run_all};
 use sqlite::{Alter, Connection, Error, Row};
 use std::alloc::AllocError;
-use store_faults::StoreFault;
+use tenant_messages::StoreFault;
 use table_reads::rows::int_at;
 use table_schema::first::is_first;
 use table_schema::refuse::{fault_of, refusal};

@@ -13,7 +13,7 @@ ghost use Rattle.table_schema.specs.Ready.{IsReady};
 use sqlite::{Alter, Connection};
 use sqlite_trees::store::Shape;
 use std::alloc::Global;
-use store_faults::StoreFault;
+use tenant_messages::StoreFault;
 use table_schema::refuse::fault_of;
 use table_schema::schema::{Layout, is_laid_out, layout_of};
 

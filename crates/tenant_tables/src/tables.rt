@@ -20,7 +20,7 @@ use crate::write::{Write, write_all};
 use sqlite::{Alter, Connection};
 use std::alloc::Global;
 use std::marker::Model;
-use store_faults::StoreFault;
+use tenant_messages::StoreFault;
 use table_reads::exceptions::exceptions_of;
 use table_reads::fault::ReadFault;
 use table_reads::find::{Tenant, find};

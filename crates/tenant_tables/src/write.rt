@@ -9,7 +9,7 @@ ghost use Rattle.table_schema.specs.Ready.{Keeps, Commits, IsReady, Refuses};
 
 use sqlite::types::ValueRef;
 use sqlite::{Alter, Connection, Error, Transaction};
-use store_faults::StoreFault;
+use tenant_messages::StoreFault;
 use table_schema::refuse::refusal;
 use table_schema::values::{Exception, Pool, Receipt, State};
 
