@@ -6,7 +6,7 @@ use Rattle.tenant_reports.specs.Usage as usage
 use Rattle.tenant_resources.specs.Exceptions as exceptions
 use Rattle.tenant_resources.specs.Groups as groups
 use Rattle.tenant_resources.specs.Maps as maps
-use Rattle.tenant_picks.specs.Picks as picks
+use Rattle.tenant_reports.specs.Picks as picks
 use Rattle.tenant_resources.specs.RuleTests as rule_tests
 use Rattle.tenant_core.specs.declared.queries.Query.{Query}
 use Rattle.tenant_core.specs.declared.queries.Query.TheVariants as query

@@ -7,8 +7,7 @@ ghost use Rattle.tenant_messages.specs.Reply.{reply};
 
 use std::alloc::{AllocError, Global};
 use tenant_messages::{Refusal, Reply, refused};
-use tenant_picks::{PickRequest, picks};
-use tenant_reports::{impact, moves, usage};
+use tenant_reports::{PickRequest, impact, moves, picks, usage};
 use tenant_resources::{ObjectName, RuleTest, exceptions, groups, maps, rule_tests};
 use tenant_state::Inventory;
 

@@ -15,8 +15,7 @@ use crush_map::Text;
 use crush_grammar::number_from_text;
 use std::alloc::Global;
 use tenant_messages::{Problem, Refusal, read_value, text_of};
-use tenant_picks::picks;
-use tenant_reports::device_csv;
+use tenant_reports::{device_csv, picks};
 use tenant_resources::{devices, exceptions, groups, maps, pools, rule_tests};
 
 /// The routes: what a method asks for at a path.

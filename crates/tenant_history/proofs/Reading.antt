@@ -24,7 +24,7 @@ use Rattle.tenant_resources.specs.Devices as devices
 use Rattle.tenant_resources.specs.Exceptions as exceptions
 use Rattle.tenant_resources.specs.Groups as groups
 use Rattle.tenant_resources.specs.Maps as maps
-use Rattle.tenant_picks.specs.Picks as picks
+use Rattle.tenant_reports.specs.Picks as picks
 use Rattle.tenant_resources.specs.Pools as pools
 use Rattle.tenant_resources.specs.RuleTests as rule_tests
 

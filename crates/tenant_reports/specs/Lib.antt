@@ -3,3 +3,4 @@ pub mod Moves
 pub mod Impact
 pub mod DeviceCsv
 pub mod Private
+pub mod Picks

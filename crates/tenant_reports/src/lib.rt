@@ -9,3 +9,8 @@ pub mod laws;
 pub mod moves;
 mod rows;
 pub mod usage;
+pub mod picks_laws;
+pub mod limits;
+pub mod picks;
+
+pub use picks::{AskedBucket, PickRequest};

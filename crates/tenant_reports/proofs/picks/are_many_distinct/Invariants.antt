@@ -1,7 +1,7 @@
 use Rattle.std.proofs.Common.{◌≡◌, true, drop}
-use Rattle.tenant_picks.specs.Picks.{are_distinct}
-use Rattle.tenant_picks.specs.Private.Seen.{HasItems}
-use Rattle.tenant_picks.proofs.picks.are_many_distinct.Given as goal
+use Rattle.tenant_reports.specs.Picks.{are_distinct}
+use Rattle.tenant_reports.specs.Private.Seen.{HasItems}
+use Rattle.tenant_reports.proofs.picks.are_many_distinct.Given as goal
 
 abbrev pub invariant-loop-place : goal.invariant-loop-place
 invariant-loop-place l = record {

@@ -1,6 +1,6 @@
 use Rattle.std.proofs.Common.{◌≡◌, length}
-use Rattle.tenant_picks.specs.Picks.{are_distinct}
-use Rattle.tenant_picks.proofs.picks.are_few_distinct.Given as goal
+use Rattle.tenant_reports.specs.Picks.{are_distinct}
+use Rattle.tenant_reports.proofs.picks.are_few_distinct.Given as goal
 
 -- the items of the rest differ exactly where those of the whole list do
 abbrev pub invariant-loop-rest : goal.invariant-loop-rest

@@ -5,8 +5,8 @@ use Rattle.std.proofs.lemmas.List.{drop_more, get_or-replicate, length-replicate
 use Rattle.std.proofs.Math.Seq.{drop-length}
 use Rattle.crush_bucket.specs.Bucket.{WeightedItem}
 use Rattle.crush_types.specs.declared.limits.TheConstants.{ID_COUNT}
-use Rattle.tenant_picks.specs.Picks.{are_distinct, is_of_item}
-use Rattle.tenant_picks.specs.Private.Seen.{HasItems}
+use Rattle.tenant_reports.specs.Picks.{are_distinct, is_of_item}
+use Rattle.tenant_reports.specs.Private.Seen.{HasItems}
 
 and_no : (b : Bool) → (b && false) ≡ false
 and_no true = refl

@@ -15,8 +15,8 @@ use Rattle.crush_types.specs.declared.Kind.TheVariants.{Straw2, Uniform}
 use Rattle.tenant_messages.specs.Forms.{IsNatural, IsInteger, IsText, IsListOf, HasExactly, IsUnder}
 use Rattle.tenant_messages.specs.Json.{value_of, natural_of, integer_of, both, all_three, list_of, has_keys, under}
 use Rattle.tenant_messages.specs.Reply.{Answer, success, members_of}
-use Rattle.tenant_picks.specs.declared.limits.TheConstants.{ATTEMPT_LIMIT}
-use Rattle.tenant_picks.specs.declared.picks.PickRequest.{PickRequest}
+use Rattle.tenant_reports.specs.declared.limits.TheConstants.{ATTEMPT_LIMIT}
+use Rattle.tenant_reports.specs.declared.picks.PickRequest.{PickRequest}
 
 -- ---- the form of a body, and the pick that it says
 

@@ -16,9 +16,9 @@ use Rattle.crush_types.specs.declared.ItemId.{ItemId}
 use Rattle.crush_types.specs.declared.Kind.{Kind}
 use Rattle.crush_types.specs.declared.Kind.TheVariants.{Uniform, List as ListKind, Tree, Straw2}
 use Rattle.tenant_messages.proofs.Finding.{Finds, finds_as, finds_both, finds_integer, finds_list, finds_natural, finds_object, finds_tested, finds_text, finds_three, finds_under, is_there, Decides-leb}
-use Rattle.tenant_picks.proofs.Deciding.{Decides-distinct, Decides-none, Differ}
-use Rattle.tenant_picks.specs.declared.limits.TheConstants.{ATTEMPT_LIMIT}
-use Rattle.tenant_picks.specs.Picks.{weighed, entry_of, is_of_item, are_distinct, kind_of, is_valid, bucket_of, pick_of, IsItem, IsKind, IsBucket, IsPickBody}
+use Rattle.tenant_reports.proofs.Deciding.{Decides-distinct, Decides-none, Differ}
+use Rattle.tenant_reports.specs.declared.limits.TheConstants.{ATTEMPT_LIMIT}
+use Rattle.tenant_reports.specs.Picks.{weighed, entry_of, is_of_item, are_distinct, kind_of, is_valid, bucket_of, pick_of, IsItem, IsKind, IsBucket, IsPickBody}
 
 -- ---- an item
 

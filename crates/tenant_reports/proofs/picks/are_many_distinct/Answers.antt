@@ -5,9 +5,9 @@ use Rattle.std.proofs.lemmas.Int.{to_z-of_z}
 use Rattle.std.proofs.lemmas.List.{take_rest}
 use Rattle.crush_bucket.specs.Bucket.{WeightedItem}
 use Rattle.crush_types.specs.declared.limits.TheConstants.{ID_COUNT}
-use Rattle.tenant_picks.specs.Picks.{is_of_item}
-use Rattle.tenant_picks.proofs.Seen.{none_seen, one_more_distinct, one_more_seen, stands_again}
-use Rattle.tenant_picks.proofs.picks.are_many_distinct.Goals as goal
+use Rattle.tenant_reports.specs.Picks.{is_of_item}
+use Rattle.tenant_reports.proofs.Seen.{none_seen, one_more_distinct, one_more_seen, stands_again}
+use Rattle.tenant_reports.proofs.picks.are_many_distinct.Goals as goal
 
 abbrev none : WeightedItem
 none = (record { 0 = pos 0 }, record { 0 = 0 })

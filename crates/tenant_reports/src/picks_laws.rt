@@ -1,7 +1,7 @@
 //! The law of the form of a pick's body: its contract is about the definitions alone.
 
 ghost use Rattle.tenant_messages.specs.Forms.{FindsExactly, ReadsExactly, RefusesOthers};
-ghost use Rattle.tenant_picks.specs.Picks.{IsPickBody, pick_of, pick_request_of};
+ghost use Rattle.tenant_reports.specs.Picks.{IsPickBody, pick_of, pick_request_of};
 
 /// A pick is read from a body exactly where the body has its form and says that pick; any other
 /// body is refused.

@@ -1,6 +1,6 @@
 use Rattle.tenant_messages.proofs.Finding.{json_finds, json_refuses}
-use Rattle.tenant_picks.proofs.PickForms.{finds_pick}
-use Rattle.tenant_picks.proofs.laws.picks_are_of_the_form.Goals as goal
+use Rattle.tenant_reports.proofs.PickForms.{finds_pick}
+use Rattle.tenant_reports.proofs.picks_laws.picks_are_of_the_form.Goals as goal
 
 pub returns-clause-value : goal.returns-clause-value
 returns-clause-value c d p = (finds_pick.says d p, finds_pick.found d p)

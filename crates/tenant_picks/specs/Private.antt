@@ -1,2 +1,0 @@
--- What only private clauses cite: how the code works. No public clause depends on it.
-pub mod Seen
