@@ -4,8 +4,8 @@ use Rattle.std.proofs.lemmas.Bool.Decides.{nat_tests}
 use Rattle.std.specs.Io.KnownBytes.{Appends}
 use Rattle.std.specs.Str.Lines.{lines}
 use Rattle.tenant_core.specs.States.{Headline, States, MeetsDefinition, Outcomes, Serves}
-use Rattle.tenant_history.proofs.Served.{leaves_latched}
-use Rattle.tenant_history.specs.Served.{LeavesSession}
+use Rattle.tenant_service.proofs.Served.{leaves_latched}
+use Rattle.tenant_service.specs.Served.{LeavesSession}
 use Rattle.tenant_service.proofs.OneSession.{Rests}
 use Rattle.crush_app.specs.Private.Latching.{PlaysLatching}
 use Rattle.tenant_core.specs.StoreReply.{IsUnavailable}

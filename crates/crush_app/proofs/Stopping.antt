@@ -3,8 +3,8 @@ use Rattle.std.proofs.Common.{◌≡◌, ℕ, ◌≤◌, List, [], ◌∷◌, �
 use Rattle.std.specs.Io.KnownBytes.{Appends}
 use Rattle.std.specs.Str.Lines.{lines}
 use Rattle.tenant_core.specs.States.{Outcomes, States}
-use Rattle.tenant_history.proofs.Served.{session_both, session_open}
-use Rattle.tenant_history.specs.Served.{IsSession}
+use Rattle.tenant_service.proofs.Served.{session_both, session_open}
+use Rattle.tenant_service.specs.Served.{IsSession}
 use Rattle.tenant_messages.specs.declared.call.Call.{Call}
 use Rattle.tenant_messages.specs.declared.reply.Reply.{Reply}
 use Rattle.tenant_service.proofs.OneSession.{Rests}

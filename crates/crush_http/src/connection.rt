@@ -2,7 +2,7 @@
 
 ghost use Rattle.std.specs.Prelude.{◌≡◌, ◌==◌, ◌||◌, ◌⊎◌, ◌-◌, ◌<◌, [], true, length, Option, None, IfSome, IfOk, OnErr};
 ghost use Rattle.std.specs.Io.KnownBytes.{Keeps as KeepsBytes, Appends};
-ghost use Rattle.tenant_history.specs.Served.{ServesSession};
+ghost use Rattle.tenant_service.specs.Served.{ServesSession};
 ghost use Rattle.tenant_service.specs.Input.{OfInput};
 ghost use Rattle.tenant_service.specs.Writing.{AppendsPart, AppendsUpTo};
 ghost use Rattle.crush_http.specs.Serving.{ServesInput};

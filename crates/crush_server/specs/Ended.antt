@@ -10,7 +10,7 @@ use Rattle.sqlite.specs.Held.{Held}
 use Rattle.tenant_files.specs.Stored.{MayStandFor}
 use Rattle.tenant_files.specs.Used.{AreAsBefore, UsesFile, UsesFiles}
 use Rattle.tenant_files.specs.declared.fault.FileFault.{FileFault}
-use Rattle.tenant_history.specs.Served.{ServesSession}
+use Rattle.tenant_service.specs.Served.{ServesSession}
 use Rattle.tenant_messages.specs.declared.call.Call.{Call}
 use Rattle.tenant_messages.specs.declared.reply.Reply.{Reply}
 use Rattle.tenant_rows.specs.Rows.{StandsFor, StatesIn}

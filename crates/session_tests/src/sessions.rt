@@ -2,8 +2,8 @@
 
 ghost use Rattle.std.specs.Prelude.{ℕ, List, [], ◌∷◌, Option, None, IfOk};
 ghost use Rattle.tenant_core.specs.States.{Shows};
-ghost use Rattle.tenant_history.specs.History.{IsHistoryFor};
-ghost use Rattle.tenant_history.specs.Served.{IsSound, LeavesSession, session};
+ghost use Rattle.tenant_service.specs.History.{IsHistoryFor};
+ghost use Rattle.tenant_service.specs.Served.{IsSound, LeavesSession, session};
 ghost use Rattle.tenant_state.specs.State.{TenantState};
 
 use crate::stopping::Stopping;

@@ -5,8 +5,8 @@ use Rattle.std.proofs.lemmas.Option.{slice_get_within}
 use Rattle.std.specs.List.{All}
 use Rattle.tenant_core.specs.Alone.{alone, answered}
 use Rattle.tenant_core.specs.Step.{is_of, step}
-use Rattle.tenant_history.proofs.Explaining.{alone-state}
-use Rattle.tenant_history.specs.History.{IsLinkedFor, MayLeave, Session, acknowledged, at_doubt, in_doubt}
+use Rattle.tenant_service.proofs.Explaining.{alone-state}
+use Rattle.tenant_service.specs.History.{IsLinkedFor, MayLeave, Session, acknowledged, at_doubt, in_doubt}
 use Rattle.tenant_laws.proofs.Answered.{none_answered}
 use Rattle.tenant_laws.proofs.Lists.{all_at, front_or_past, none_in}
 use Rattle.tenant_laws.specs.Sessions.{HasNoDoubtOf, IsInDoubt, after_acknowledged}

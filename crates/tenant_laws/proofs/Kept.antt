@@ -5,8 +5,8 @@ use Rattle.std.proofs.lemmas.List.Elements.{Contains-append_left, Contains-appen
 use Rattle.crush_map.specs.Sound.{IsEachOnce}
 use Rattle.tenant_core.specs.Alone.{answered}
 use Rattle.tenant_core.specs.Step.{is_of}
-use Rattle.tenant_history.proofs.Ordering.{keeps_order}
-use Rattle.tenant_history.specs.History.{AreInOrder, IsKeptOf, IsSoundFor, Kept, Session, calls_of, in_doubt, kept_acknowledged, kept_in_doubt}
+use Rattle.tenant_service.proofs.Ordering.{keeps_order}
+use Rattle.tenant_service.specs.History.{AreInOrder, IsKeptOf, IsSoundFor, Kept, Session, calls_of, in_doubt, kept_acknowledged, kept_in_doubt}
 use Rattle.tenant_laws.proofs.Answered.{among_answered, is_no_503, stands}
 use Rattle.tenant_laws.proofs.Doubtful.{doubted, no_doubt, own_doubt}
 use Rattle.tenant_laws.proofs.Lists.{from_map, in_map}

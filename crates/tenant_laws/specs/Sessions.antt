@@ -2,7 +2,7 @@
 use Rattle.std.specs.Prelude.{ℕ, ◌≡◌, ◌≢◌, ◌⊎◌, List, slice_get, take, true, false, Option, Some, None}
 use Rattle.tenant_core.specs.Alone.{alone, calls_answered}
 use Rattle.tenant_core.specs.Step.{is_of}
-use Rattle.tenant_history.specs.History.{Kept, Session, acknowledged}
+use Rattle.tenant_service.specs.History.{Kept, Session, acknowledged}
 use Rattle.tenant_messages.specs.declared.call.Call.{Call}
 use Rattle.tenant_messages.specs.declared.reply.Reply.{Reply}
 use Rattle.tenant_state.specs.State.{TenantState}

@@ -2,8 +2,8 @@
 
 ghost use Rattle.std.specs.Prelude.{◌≡◌, ℕ, List, [], ◌∷◌, Option};
 ghost use Rattle.tenant_core.specs.States.{Found, Damaged, HasState};
-ghost use Rattle.tenant_history.specs.History.{IsHistoryFor};
-ghost use Rattle.tenant_history.specs.Served.{IsSound, LeavesSession, session};
+ghost use Rattle.tenant_service.specs.History.{IsHistoryFor};
+ghost use Rattle.tenant_service.specs.Served.{IsSound, LeavesSession, session};
 ghost use Rattle.tenant_messages.specs.declared.call.Call.{Call};
 ghost use Rattle.tenant_messages.specs.declared.reply.Reply.{Reply};
 ghost use Rattle.tenant_state.specs.State.{TenantState};

@@ -3,3 +3,9 @@ pub mod KeptStates
 pub mod OneSession
 pub mod Performed
 pub mod Written
+pub mod Explaining
+pub mod Ordering
+pub mod Reading
+pub mod Receipted
+pub mod Repeating
+pub mod Served

@@ -3,8 +3,8 @@ use Rattle.std.proofs.Common.{◌≡◌, ℕ, List, [], ◌∷◌, Bool, true, f
 use Rattle.tenant_core.proofs.Running.{run_latched, run_none, run_one}
 use Rattle.tenant_core.specs.States.{Found, LeavesStep, Outcomes, Serves, Shows, States}
 use Rattle.tenant_core.specs.StoreReply.{IsUnavailable}
-use Rattle.tenant_history.proofs.Served.{session_latched, session_open}
-use Rattle.tenant_history.specs.Served.{IsSession}
+use Rattle.tenant_service.proofs.Served.{session_latched, session_open}
+use Rattle.tenant_service.specs.Served.{IsSession}
 use Rattle.tenant_messages.specs.declared.call.Call.{Call}
 use Rattle.tenant_messages.specs.declared.reply.Reply.{Reply}
 use Rattle.tenant_state.specs.State.{TenantState}

@@ -7,6 +7,7 @@ mod memory_store;
 mod service;
 mod session;
 mod writing;
+pub mod history_laws;
 
 pub use memory_store::MemoryStore;
 pub use service::Service;

@@ -1,7 +1,7 @@
 //! Sessions: the calls that a service serves from one opening of its store to the next.
 
 ghost use Rattle.std.specs.Prelude.{◌≡◌};
-ghost use Rattle.tenant_history.specs.Private as spec;
+ghost use Rattle.tenant_service.specs.Private as spec;
 
 use crate::service::Service;
 use std::alloc::AllocError;
@@ -30,9 +30,9 @@ fn doubt_after(doubt: Option<usize>, is_latched: bool, place: usize) -> Option<u
 impl<T: TenantStore> Service<T> {
     ghost use Rattle.std.specs.Prelude.{◌≡◌, ◌≤◌, [], true, false, is_some, length, vec_capacity, IfOk, OnErr};
     ghost use Rattle.tenant_core.specs.States.{MeetsDefinition};
-    ghost use Rattle.tenant_history.specs.History.{IsSilentFrom};
-    ghost use Rattle.tenant_history.specs.Private.{LeavesSoFar};
-    ghost use Rattle.tenant_history.specs.Served.{IsSound, LeavesSession};
+    ghost use Rattle.tenant_service.specs.History.{IsSilentFrom};
+    ghost use Rattle.tenant_service.specs.Private.{LeavesSoFar};
+    ghost use Rattle.tenant_service.specs.Served.{IsSound, LeavesSession};
 
     /// Serves the calls in order, appends their replies, and returns the doubt. `replies` has the
     /// capacity for them.

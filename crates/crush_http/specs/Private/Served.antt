@@ -3,7 +3,7 @@ use Rattle.std.specs.Prelude.{◌≡◌, ℕ, List, [], ◌∷◌, ◌++◌, len
 use Rattle.std.specs.Io.KnownBytes.{Consumes}
 use Rattle.tenant_core.specs.States.{Found, Outcomes, States, Serves}
 use Rattle.tenant_core.specs.StoreReply.{IsUnavailable}
-use Rattle.tenant_history.specs.Served.{IsSession}
+use Rattle.tenant_service.specs.Served.{IsSession}
 use Rattle.tenant_messages.specs.declared.call.Call.{Call}
 use Rattle.tenant_messages.specs.declared.reply.Reply.{Reply}
 use Rattle.tenant_service.specs.Writing.{AppendsPart, AppendsUpTo}

@@ -1,6 +1,6 @@
 use Rattle.std.proofs.Common.{◌≡◌, ◌+◌, ◌<◌, ◌≤◌, ℕ, suc, false, sym, subst, ◌∙◌, arith, add-one}
 use Rattle.tenant_core.specs.States.{MeetsDefinition}
-use Rattle.tenant_history.specs.Served.{ServesSession}
+use Rattle.tenant_service.specs.Served.{ServesSession}
 use Rattle.crush_server.proofs.Each.{clients_map, clients_more, clients_none}
 use Rattle.crush_server.proofs.Serving.{meets_after, meets_none, session_after, session_whole}
 use Rattle.crush_server.specs.Clients.{ServesClients}

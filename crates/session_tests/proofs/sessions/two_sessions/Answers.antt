@@ -1,7 +1,7 @@
 use Rattle.std.proofs.Common.{◌≡◌, ℕ, List, None}
 use Rattle.std.specs.BTreeMap.{get_by_text}
 use Rattle.tenant_core.specs.States.{Shows}
-use Rattle.tenant_history.proofs.Served.{history_of_two}
+use Rattle.tenant_service.proofs.Served.{history_of_two}
 use Rattle.session_tests.proofs.Stopped.{Holds}
 use Rattle.session_tests.proofs.sessions.two_sessions.Goals as goal
 

@@ -1,6 +1,6 @@
 use Rattle.std.proofs.Common.{◌≡◌, ◌<◌, ◌≤◌, length, false, subst, Option, ℕ, arith}
 use Rattle.tenant_core.specs.Alone.{is_answered}
-use Rattle.tenant_history.specs.History.{IsSilentFrom}
+use Rattle.tenant_service.specs.History.{IsSilentFrom}
 use Rattle.tenant_laws.proofs.Answered.{is_503}
 use Rattle.tenant_laws.proofs.Lists.{all_from}
 use Rattle.tenant_laws.proofs.sessions.from_its_doubt_on_a_session_is_silent.Goals as goal

@@ -1,4 +1,4 @@
-use Rattle.tenant_history.proofs.Served.{leaves_session, sound}
+use Rattle.tenant_service.proofs.Served.{leaves_session, sound}
 use Rattle.tenant_service.proofs.service.Service.run_session.Goals as goal
 
 pub returns-clause-sound : goal.returns-clause-sound

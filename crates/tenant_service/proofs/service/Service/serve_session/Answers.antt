@@ -2,8 +2,8 @@ use Rattle.std.proofs.Common.{◌≡◌, ◌+◌, ℕ, List, [], ◌∷◌, ◌+
 use Rattle.std.proofs.lemmas.List.{take_more}
 use Rattle.tenant_core.proofs.Running.{run_on}
 use Rattle.tenant_core.specs.States.{LeavesStep, MeetsDefinition}
-use Rattle.tenant_history.proofs.Served.{OneMore, latch_after, leaves_more, silent_after}
-use Rattle.tenant_history.specs.Private.{LeavesSoFar, doubt_after}
+use Rattle.tenant_service.proofs.Served.{OneMore, latch_after, leaves_more, silent_after}
+use Rattle.tenant_service.specs.Private.{LeavesSoFar, doubt_after}
 use Rattle.tenant_messages.specs.declared.call.Call.{Call}
 use Rattle.tenant_service.proofs.service.Service.serve_session.Goals as goal
 

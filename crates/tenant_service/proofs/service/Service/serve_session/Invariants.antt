@@ -1,7 +1,7 @@
 use Rattle.std.proofs.Common.{◌≡◌, ◌≤◌, length, take, vec_capacity, is_some}
 use Rattle.tenant_core.specs.States.{MeetsDefinition}
-use Rattle.tenant_history.specs.History.{IsSilentFrom}
-use Rattle.tenant_history.specs.Private.{LeavesSoFar}
+use Rattle.tenant_service.specs.History.{IsSilentFrom}
+use Rattle.tenant_service.specs.Private.{LeavesSoFar}
 use Rattle.tenant_service.proofs.service.Service.serve_session.Given as goal
 
 -- the calls so far are a session, and there is room for all replies

@@ -1,5 +1,5 @@
-use Rattle.tenant_history.proofs.Receipted.{gone, receipt_lasts}
-use Rattle.tenant_history.proofs.laws.only_a_drop_takes_a_receipt_away.Goals as goal
+use Rattle.tenant_service.proofs.Receipted.{gone, receipt_lasts}
+use Rattle.tenant_service.proofs.history_laws.only_a_drop_takes_a_receipt_away.Goals as goal
 
 pub returns-clause-stays : goal.returns-clause-stays
 returns-clause-stays c = receipt_lasts

@@ -6,7 +6,7 @@ use Rattle.tenant_core.specs.Request.{Request, request_of}
 use Rattle.tenant_core.specs.Step.{step}
 use Rattle.tenant_core.specs.declared.request.Action.{Action}
 use Rattle.tenant_core.specs.declared.request.Action.TheVariants as action
-use Rattle.tenant_history.specs.History.{Kept, calls_of}
+use Rattle.tenant_service.specs.History.{Kept, calls_of}
 use Rattle.tenant_messages.specs.declared.call.Call.{Call}
 use Rattle.tenant_messages.specs.declared.reply.Problem.{Problem}
 use Rattle.tenant_messages.specs.declared.reply.Reply.{Reply}

@@ -3,9 +3,9 @@ use Rattle.std.proofs.Common.{◌≡◌, ◌≢◌, ◌⊎◌, inl, inr, ◌<◌
 use Rattle.std.proofs.lemmas.Bool.{cases_Bool, eqb-true, eqb-false}
 use Rattle.std.specs.List.{AllZip}
 use Rattle.tenant_core.specs.Alone.{alone}
-use Rattle.tenant_history.specs.History.{Kept, calls_of, IsReplyTo}
-use Rattle.tenant_history.specs.Repeats.{ActsOnce, Exists, IsAccepted, number_of, state_before}
-use Rattle.tenant_history.proofs.Receipted.{HasReceipt, accepted, changes_nothing, same_again, stays}
+use Rattle.tenant_service.specs.History.{Kept, calls_of, IsReplyTo}
+use Rattle.tenant_service.specs.Repeats.{ActsOnce, Exists, IsAccepted, number_of, state_before}
+use Rattle.tenant_service.proofs.Receipted.{HasReceipt, accepted, changes_nothing, same_again, stays}
 use Rattle.tenant_core.specs.Step.{step}
 use Rattle.tenant_messages.specs.declared.call.Call.{Call}
 use Rattle.tenant_messages.specs.declared.reply.Reply.{Reply}

@@ -4,8 +4,8 @@ use Rattle.std.proofs.lemmas.List.{append-nil}
 use Rattle.std.specs.List.{AllZip}
 use Rattle.tenant_core.specs.Alone.{alone, answered}
 use Rattle.tenant_core.specs.Step.{step}
-use Rattle.tenant_history.proofs.Ordering.{calls_acknowledged, calls_doubtful, calls_of-append, calls_of_both, keeps_order}
-use Rattle.tenant_history.specs.History.{Explains, IsHistoryFor, IsKeptOf, IsReplyTo, IsSoundFor, Kept, MayLeave, Session, calls_of, in_doubt, joined, kept_acknowledged, kept_in_doubt}
+use Rattle.tenant_service.proofs.Ordering.{calls_acknowledged, calls_doubtful, calls_of-append, calls_of_both, keeps_order}
+use Rattle.tenant_service.specs.History.{Explains, IsHistoryFor, IsKeptOf, IsReplyTo, IsSoundFor, Kept, MayLeave, Session, calls_of, in_doubt, joined, kept_acknowledged, kept_in_doubt}
 use Rattle.tenant_messages.specs.declared.call.Call.{Call}
 use Rattle.tenant_messages.specs.declared.reply.Reply.{Reply}
 use Rattle.tenant_state.specs.State.{TenantState}

@@ -1,7 +1,7 @@
 -- What a service says of a session that it served.
 use Rattle.std.specs.Prelude.{ℕ, ◌≡◌, List, Bool, false, Option}
 use Rattle.tenant_core.specs.States.{States, Outcomes, Found, HasState, MeetsDefinition}
-use Rattle.tenant_history.specs.History.{Session, IsSoundFor, MayLeave}
+use Rattle.tenant_service.specs.History.{Session, IsSoundFor, MayLeave}
 use Rattle.tenant_messages.specs.declared.call.Call.{Call}
 use Rattle.tenant_messages.specs.declared.reply.Reply.{Reply}
 use Rattle.tenant_state.specs.State.{TenantState}

@@ -8,10 +8,10 @@ use Rattle.tenant_core.specs.Alone.{alone, answered, calls_answered, is_answered
 use Rattle.tenant_core.specs.States.{Damaged, Found, HasState, LeavesStep, MeetsDefinition, Outcomes, Shows, States}
 use Rattle.tenant_core.specs.Step.{is_of, step}
 use Rattle.tenant_core.specs.StoreReply.{IsUnavailable}
-use Rattle.tenant_history.proofs.Explaining.{alone-replies, alone-state}
-use Rattle.tenant_history.specs.History.{IsHistoryFor, IsSilentFrom, IsSoundFor, MayLeave, at_doubt, in_doubt}
-use Rattle.tenant_history.specs.Private.{LeavesSoFar, doubt_after}
-use Rattle.tenant_history.specs.Served.{IsSession, IsSound, LeavesSession, session}
+use Rattle.tenant_service.proofs.Explaining.{alone-replies, alone-state}
+use Rattle.tenant_service.specs.History.{IsHistoryFor, IsSilentFrom, IsSoundFor, MayLeave, at_doubt, in_doubt}
+use Rattle.tenant_service.specs.Private.{LeavesSoFar, doubt_after}
+use Rattle.tenant_service.specs.Served.{IsSession, IsSound, LeavesSession, session}
 use Rattle.tenant_messages.specs.declared.call.Call.{Call}
 use Rattle.tenant_messages.specs.declared.reply.Reply.{Reply}
 use Rattle.tenant_state.specs.State.{TenantState}

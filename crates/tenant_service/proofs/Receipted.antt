@@ -9,8 +9,8 @@ use Rattle.tenant_core.specs.Step.{decision_on, decision_or_refusal, step, step_
 use Rattle.tenant_core.specs.declared.decision.Effect.TheVariants as effect
 use Rattle.tenant_core.specs.declared.request.Action.{Action}
 use Rattle.tenant_core.specs.declared.request.Action.TheVariants as action
-use Rattle.tenant_history.proofs.Reading.{call_from}
-use Rattle.tenant_history.specs.Repeats.{AreAlike, command_in, command_asked, command_of, number_of}
+use Rattle.tenant_service.proofs.Reading.{call_from}
+use Rattle.tenant_service.specs.Repeats.{AreAlike, command_in, command_asked, command_of, number_of}
 use Rattle.tenant_messages.specs.Reply.{refused, repeated, reply}
 use Rattle.tenant_messages.specs.declared.call.Call.{Call}
 use Rattle.tenant_messages.specs.declared.reply.Problem.{Problem}

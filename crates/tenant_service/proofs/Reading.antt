@@ -16,7 +16,7 @@ use Rattle.tenant_core.specs.declared.request.Action.TheVariants as action
 use Rattle.tenant_core.specs.declared.route.Methods.{Methods}
 use Rattle.tenant_core.specs.declared.route.Route.{Route}
 use Rattle.tenant_core.specs.declared.route.Route.TheVariants as route
-use Rattle.tenant_history.specs.Repeats.{command_in, command_asked, command_of}
+use Rattle.tenant_service.specs.Repeats.{command_in, command_asked, command_of}
 use Rattle.tenant_messages.specs.declared.call.Call.{Call}
 use Rattle.tenant_messages.specs.declared.reply.Problem.TheVariants.{BadRequest, TooLarge}
 use Rattle.tenant_reports.specs.DeviceCsv as device_csv

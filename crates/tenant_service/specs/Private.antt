@@ -2,7 +2,7 @@
 -- it.
 use Rattle.std.specs.Prelude.{ℕ, ◌≡◌, List, Bool, true, false, Option, Some, None}
 use Rattle.tenant_core.specs.States.{States, Outcomes}
-use Rattle.tenant_history.specs.Served.{LeavesSession}
+use Rattle.tenant_service.specs.Served.{LeavesSession}
 use Rattle.tenant_messages.specs.declared.call.Call.{Call}
 use Rattle.tenant_messages.specs.declared.reply.Reply.{Reply}
 

@@ -1,6 +1,0 @@
-pub mod Explaining
-pub mod Ordering
-pub mod Reading
-pub mod Receipted
-pub mod Repeating
-pub mod Served

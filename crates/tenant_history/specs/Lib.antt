@@ -1,4 +1,0 @@
-pub mod History
-pub mod Repeats
-pub mod Served
-pub mod Private
