@@ -3,3 +3,12 @@ pub mod Elements
 pub mod Tested
 pub mod Places
 mod Looking
+pub mod QueryFacts
+pub mod Asking
+pub mod ReadsColumns
+pub mod Rising
+pub mod Listing
+pub mod Paging
+pub mod Placing
+pub mod Failing
+pub mod Safe

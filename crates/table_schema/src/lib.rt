@@ -9,3 +9,12 @@ pub mod refuse;
 pub mod schema;
 mod tables;
 pub mod values;
+mod ask;
+pub mod exceptions;
+pub mod fault;
+pub mod find;
+pub mod lists;
+pub mod pages;
+mod read;
+pub mod rows;
+

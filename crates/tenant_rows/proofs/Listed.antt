@@ -10,14 +10,14 @@ use Rattle.crush_map.specs.Map.{Map, IsMap}
 use Rattle.crush_writing.specs.Canonical.{canonical}
 use Rattle.tenant_state.specs.State.{Inventory}
 use Rattle.table_schema.specs.Values.{state_row, exception_row}
-use Rattle.table_reads.specs.Found.{Lists, ListsBy, Precedes, IsVersionRow, IsStateRow, IsPoolRow, IsExceptionRow, version_values, pool_values}
+use Rattle.table_schema.specs.Found.{Lists, ListsBy, Precedes, IsVersionRow, IsStateRow, IsPoolRow, IsExceptionRow, version_values, pool_values}
 use Rattle.table_schema.specs.Holds.{of_tenant}
 use Rattle.table_schema.specs.Layout.{maps_table, devices_table, pools_table, exceptions_table}
 use Rattle.tenant_messages.specs.declared.StoreFault.{StoreFault}
 use Rattle.tenant_messages.specs.declared.StoreFault.TheVariants.{Failed}
-use Rattle.table_reads.specs.declared.find.Tenant.{Tenant}
-use Rattle.table_reads.specs.declared.rows.PoolRow.{PoolRow}
-use Rattle.table_reads.specs.declared.rows.VersionRow.{VersionRow}
+use Rattle.table_schema.specs.declared.find.Tenant.{Tenant}
+use Rattle.table_schema.specs.declared.rows.PoolRow.{PoolRow}
+use Rattle.table_schema.specs.declared.rows.VersionRow.{VersionRow}
 use Rattle.table_schema.specs.declared.values.Exception.{Exception}
 use Rattle.table_schema.specs.declared.values.State.{State}
 use Rattle.tenant_rows.specs.Changes.{HasRows}

@@ -11,8 +11,8 @@ use Rattle.tenant_state.specs.State.{Inventory, TenantState}
 use Rattle.tenant_state.specs.Valid.{IsInventory, IsState}
 use Rattle.table_schema.specs.Holds.{IsTenant, of_tenant}
 use Rattle.table_schema.specs.Layout.{maps_table, devices_table, pools_table, receipts_table, exceptions_table}
-use Rattle.table_reads.specs.declared.rows.VersionRow.{VersionRow}
-use Rattle.table_reads.specs.declared.rows.PoolRow.{PoolRow}
+use Rattle.table_schema.specs.declared.rows.VersionRow.{VersionRow}
+use Rattle.table_schema.specs.declared.rows.PoolRow.{PoolRow}
 use Rattle.table_schema.specs.declared.values.Exception.{Exception}
 use Rattle.table_schema.specs.declared.values.State.{State}
 use Rattle.tenant_rows.specs.Lists.{AreRowsOf}

@@ -25,9 +25,9 @@ use Rattle.tenant_state.specs.Receipts.{Receipts, is_before}
 use Rattle.tenant_state.specs.State.{TenantPool, is_lower_device, is_lower_pool}
 use Rattle.tenant_state.specs.Valid.{is_tenant_pool}
 use Rattle.sqlite_trees.specs.Tree.{IsAscending}
-use Rattle.table_reads.specs.Found.{IsRising, IsVersionRow, IsStateRow, IsPoolRow, IsExceptionRow, Precedes}
-use Rattle.table_reads.proofs.Placing.{in_one_pool}
-use Rattle.table_reads.proofs.Rising.{below_int, below_text, neighbours}
+use Rattle.table_schema.specs.Found.{IsRising, IsVersionRow, IsStateRow, IsPoolRow, IsExceptionRow, Precedes}
+use Rattle.table_schema.proofs.Placing.{in_one_pool}
+use Rattle.table_schema.proofs.Rising.{below_int, below_text, neighbours}
 use Rattle.tenant_rows.specs.Rows.{flag, row_of_version, rows_of_versions, row_of_state, row_of_pool, row_of_pair, rows_of_pairs, rows_of_exceptions, row_of_receipt}
 use Rattle.tenant_rows.proofs.Reading.{first, second}
 

@@ -25,11 +25,11 @@ use Rattle.tenant_state.specs.Valid.{is_receipt}
 use Rattle.tenant_state.specs.declared.receipts.Receipt.{Receipt}
 use Rattle.table_schema.specs.Layout.{receipts_table}
 use Rattle.table_schema.specs.Holds.{of_tenant}
-use Rattle.table_reads.specs.Found.{IsRising, IsReceiptRow, Lists, Begins, rows_above, receipt_values}
-use Rattle.table_reads.specs.declared.rows.ReceiptRow.{ReceiptRow}
+use Rattle.table_schema.specs.Found.{IsRising, IsReceiptRow, Lists, Begins, rows_above, receipt_values}
+use Rattle.table_schema.specs.declared.rows.ReceiptRow.{ReceiptRow}
 use Rattle.tenant_messages.specs.declared.StoreFault.{StoreFault}
-use Rattle.table_reads.proofs.Rising.{below_text, below_text_back}
-use Rattle.table_reads.specs.declared.find.Tenant.{Tenant}
+use Rattle.table_schema.proofs.Rising.{below_text, below_text_back}
+use Rattle.table_schema.specs.declared.find.Tenant.{Tenant}
 use Rattle.tenant_rows.specs.Changes.{HasReceipts}
 use Rattle.tenant_rows.specs.Rows.{row_of_receipt}
 use Rattle.tenant_rows.specs.Pages.{IsOfReceipt, AreReceipts, IsTail, Leaves}

@@ -17,8 +17,8 @@ use Rattle.crush_pool.specs.Exceptions.{are_pairs, is_pair}
 use Rattle.crush_pool.specs.declared.exceptions.Pair.{Pair}
 use Rattle.crush_pool.specs.declared.limits.TheConstants.{GROUP_LIMIT, PAIR_LIMIT}
 use Rattle.tenant_state.specs.State.{Made, NewExceptions}
-use Rattle.table_reads.specs.Found.{IsPoolRow, Lists, pool_values}
-use Rattle.table_reads.specs.declared.rows.PoolRow.{PoolRow}
+use Rattle.table_schema.specs.Found.{IsPoolRow, Lists, pool_values}
+use Rattle.table_schema.specs.declared.rows.PoolRow.{PoolRow}
 use Rattle.table_schema.specs.Holds.{Holds, of_tenant}
 use Rattle.table_schema.specs.Layout.{pools_table}
 use Rattle.table_schema.specs.Values.{exception_row, pool_row}

@@ -16,8 +16,8 @@ use Rattle.tenant_state.specs.State.{TenantPool}
 use Rattle.tenant_state.specs.Valid.{is_tenant_pool}
 use Rattle.table_schema.specs.Values.{exception_row}
 use Rattle.table_schema.specs.declared.values.Exception.{Exception}
-use Rattle.table_reads.specs.Found.{pool_values}
-use Rattle.table_reads.specs.declared.rows.PoolRow.{PoolRow}
+use Rattle.table_schema.specs.Found.{pool_values}
+use Rattle.table_schema.specs.declared.rows.PoolRow.{PoolRow}
 use Rattle.tenant_rows.specs.Rows.{row_of_pool, row_of_pair, row_with_count, rows_of_pairs, rows_of_exceptions}
 use Rattle.tenant_rows.proofs.Reading.{first, second, heads, tails, same_settings}
 

@@ -14,8 +14,8 @@ use Rattle.tenant_messages.specs.declared.reply.SuccessStatus.{SuccessStatus}
 use Rattle.tenant_messages.specs.declared.reply.SuccessStatus.TheVariants.{Done, Created}
 use Rattle.tenant_state.specs.Ordered.{is_ascending, if_ascending}
 use Rattle.tenant_state.specs.declared.receipts.Receipt.{Receipt}
-use Rattle.table_reads.specs.Found.{version_values}
-use Rattle.table_reads.specs.declared.rows.VersionRow.{VersionRow}
+use Rattle.table_schema.specs.Found.{version_values}
+use Rattle.table_schema.specs.declared.rows.VersionRow.{VersionRow}
 use Rattle.tenant_rows.specs.Rows.{flag, row_of_version, rows_of_versions, row_of_state, row_with_count, row_of_receipt}
 
 -- ---- lists

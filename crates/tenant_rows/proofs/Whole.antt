@@ -10,13 +10,13 @@ use Rattle.tenant_state.specs.Receipts.{Receipts, is_before}
 use Rattle.tenant_state.specs.State.{Inventory, TenantState, epoch, inventory_of, with_receipts}
 use Rattle.tenant_state.specs.Valid.{IsState, is_receipt}
 use Rattle.tenant_state.specs.declared.limits.TheConstants.{RECEIPT_LIMIT}
-use Rattle.table_reads.specs.Found.{Names, receipt_values}
+use Rattle.table_schema.specs.Found.{Names, receipt_values}
 use Rattle.table_schema.specs.Holds.{IsTenant, of_tenant}
 use Rattle.table_schema.specs.Layout.{maps_table, devices_table, pools_table, receipts_table, exceptions_table}
-use Rattle.table_reads.specs.declared.find.Tenant.{Tenant}
-use Rattle.table_reads.specs.declared.rows.PoolRow.{PoolRow}
-use Rattle.table_reads.specs.declared.rows.ReceiptRow.{ReceiptRow}
-use Rattle.table_reads.specs.declared.rows.VersionRow.{VersionRow}
+use Rattle.table_schema.specs.declared.find.Tenant.{Tenant}
+use Rattle.table_schema.specs.declared.rows.PoolRow.{PoolRow}
+use Rattle.table_schema.specs.declared.rows.ReceiptRow.{ReceiptRow}
+use Rattle.table_schema.specs.declared.rows.VersionRow.{VersionRow}
 use Rattle.table_schema.specs.declared.values.Exception.{Exception}
 use Rattle.table_schema.specs.declared.values.State.{State}
 use Rattle.tenant_rows.specs.Changes.{HasRows, HasReceipts}

@@ -29,7 +29,7 @@ use Rattle.tenant_tables.specs.declared.commit.Accepted.{Accepted}
 use Rattle.table_schema.specs.Values.{receipt_row}
 use Rattle.table_schema.specs.Holds.{Holds, IsTenant, TenantRows, of_tenant}
 use Rattle.table_schema.specs.Layout.{pools_table}
-use Rattle.table_reads.specs.declared.find.Tenant.{Tenant}
+use Rattle.table_schema.specs.declared.find.Tenant.{Tenant}
 use Rattle.table_schema.specs.declared.values.Receipt as tables
 use Rattle.tenant_rows.proofs.Keyed.{differs, none_taken, put, swap, taken}
 use Rattle.tenant_rows.proofs.PairWrites.{exceptions_new, exceptions_put, exceptions_taken, pools_put}

@@ -7,9 +7,9 @@ use Rattle.tenant_state.specs.Receipts.{Receipts, is_before}
 use Rattle.tenant_state.specs.State.{CanMake, Change, Inventory, TenantState}
 use Rattle.tenant_state.specs.Valid.{is_receipt}
 use Rattle.table_schema.specs.Layout.{maps_table, devices_table, pools_table, receipts_table, exceptions_table}
-use Rattle.table_reads.specs.Found.{Names}
+use Rattle.table_schema.specs.Found.{Names}
 use Rattle.table_schema.specs.Holds.{of_tenant}
-use Rattle.table_reads.specs.declared.find.Tenant.{Tenant}
+use Rattle.table_schema.specs.declared.find.Tenant.{Tenant}
 use Rattle.tenant_rows.specs.Rows.{rows_of_versions, row_of_state, row_of_pool, rows_of_exceptions, row_of_receipt, StandsFor}
 
 -- the name stands for the state `s`, and each other name for what it stood for

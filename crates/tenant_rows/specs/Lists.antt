@@ -4,10 +4,10 @@ use Rattle.tenant_state.specs.State.{Inventory, TenantState, have_rules, invento
 use Rattle.tenant_state.specs.Valid.{IsInventory, are_named_once}
 use Rattle.tenant_state.specs.declared.limits.TheConstants.{POOL_LIMIT, RECEIPT_LIMIT, VERSION_LIMIT}
 use Rattle.table_schema.specs.Values.{state_row, exception_row}
-use Rattle.table_reads.specs.Found.{version_values, pool_values, receipt_values}
-use Rattle.table_reads.specs.declared.rows.VersionRow.{VersionRow}
-use Rattle.table_reads.specs.declared.rows.PoolRow.{PoolRow}
-use Rattle.table_reads.specs.declared.rows.ReceiptRow.{ReceiptRow}
+use Rattle.table_schema.specs.Found.{version_values, pool_values, receipt_values}
+use Rattle.table_schema.specs.declared.rows.VersionRow.{VersionRow}
+use Rattle.table_schema.specs.declared.rows.PoolRow.{PoolRow}
+use Rattle.table_schema.specs.declared.rows.ReceiptRow.{ReceiptRow}
 use Rattle.table_schema.specs.declared.values.Exception.{Exception}
 use Rattle.table_schema.specs.declared.values.State.{State}
 use Rattle.tenant_rows.specs.Rows.{rows_of_versions, row_of_state, row_of_pool, rows_of_exceptions, row_of_receipt}

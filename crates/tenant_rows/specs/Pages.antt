@@ -6,7 +6,7 @@ use Rattle.tenant_state.specs.Ordered.{is_ascending}
 use Rattle.tenant_state.specs.Receipts.{Receipts, is_before}
 use Rattle.tenant_state.specs.Valid.{is_receipt}
 use Rattle.tenant_state.specs.declared.receipts.Receipt.{Receipt}
-use Rattle.table_reads.specs.Found.{rows_above}
+use Rattle.table_schema.specs.Found.{rows_above}
 use Rattle.tenant_rows.specs.Rows.{row_of_receipt}
 use Rattle.tenant_rows.specs.declared.judge.Rest.{Rest}
 

@@ -12,7 +12,7 @@ use crate::pools::pools_from;
 use crush_text::written_maps_are_read_back;
 use std::alloc::{AllocError, Global};
 use std::rc::Rc;
-use table_reads::rows::{PoolRow, VersionRow};
+use table_schema::rows::{PoolRow, VersionRow};
 use table_schema::values::{Exception, State};
 use tenant_state::limits::{POOL_LIMIT, RECEIPT_LIMIT, VERSION_LIMIT};
 use tenant_state::{Inventory, TenantPool, Versions};

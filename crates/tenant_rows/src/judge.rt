@@ -6,16 +6,16 @@ ghost use Rattle.sqlite.specs.Held.{state};
 ghost use Rattle.sqlite.specs.State.{HasCleanDisk, Survives};
 ghost use Rattle.sqlite_value.specs.Order.{Row};
 ghost use Rattle.tenant_state.specs.Receipts.{Receipts};
-ghost use Rattle.table_reads.specs.Found.{Begins, receipt_values};
+ghost use Rattle.table_schema.specs.Found.{Begins, receipt_values};
 ghost use Rattle.tenant_rows.specs.Changes.{HasReceipts};
 ghost use Rattle.tenant_rows.specs.Pages.{AreReceipts, IsOfReceipt, IsTail, Leaves};
 
 use crate::parts::is_receipt_row;
 use sqlite::Alter;
 use tenant_messages::StoreFault;
-use table_reads::find::Tenant;
-use table_reads::pages::PAGE;
-use table_reads::rows::ReceiptRow;
+use table_schema::find::Tenant;
+use table_schema::pages::PAGE;
+use table_schema::rows::ReceiptRow;
 use tenant_tables::tables::Tables;
 
 /// The receipts that are still to be judged: those whose request numbers are above `after`, of

@@ -10,7 +10,7 @@ ghost use Rattle.tenant_state.specs.Ordered.{is_ascending};
 ghost use Rattle.tenant_state.specs.State.{is_lower_device};
 ghost use Rattle.tenant_state.specs.Valid.{is_device_state, is_receipt};
 ghost use Rattle.table_schema.specs.Values.{state_row};
-ghost use Rattle.table_reads.specs.Found.{version_values, receipt_values};
+ghost use Rattle.table_schema.specs.Found.{version_values, receipt_values};
 ghost use Rattle.tenant_rows.specs.Pages.{IsOfReceipt};
 ghost use Rattle.tenant_rows.specs.Rows as spec;
 
@@ -20,7 +20,7 @@ use crush_pool::DeviceState;
 use crush_choose::FULL;
 use std::alloc::{AllocError, Global};
 use std::rc::Rc;
-use table_reads::rows::{ReceiptRow, VersionRow};
+use table_schema::rows::{ReceiptRow, VersionRow};
 use table_schema::values::State;
 use tenant_messages::SuccessStatus;
 use tenant_messages::limits::REQUEST_NUMBER_LIMIT;

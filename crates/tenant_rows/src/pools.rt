@@ -11,7 +11,7 @@ ghost use Rattle.tenant_state.specs.Ordered.{is_ascending};
 ghost use Rattle.tenant_state.specs.State.{TenantPool as PoolOfTenant, is_lower_pool};
 ghost use Rattle.tenant_state.specs.Valid.{is_tenant_pool};
 ghost use Rattle.table_schema.specs.Values.{exception_row};
-ghost use Rattle.table_reads.specs.Found.{pool_values};
+ghost use Rattle.table_schema.specs.Found.{pool_values};
 ghost use Rattle.tenant_rows.specs.Rows as spec;
 
 use crate::parts::{flag, natural};
@@ -19,7 +19,7 @@ use crush_pool::{Exceptions, Pair, Pool, PoolParts, SharedExceptions};
 use crush_map::Text;
 use std::alloc::{AllocError, Global};
 use std::rc::Rc;
-use table_reads::rows::PoolRow;
+use table_schema::rows::PoolRow;
 use table_schema::values::Exception;
 use tenant_state::{Pools, TenantPool};
 

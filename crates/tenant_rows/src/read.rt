@@ -13,7 +13,7 @@ use sqlite::Alter;
 use std::alloc::Global;
 use std::rc::Rc;
 use tenant_messages::StoreFault;
-use table_reads::find::Tenant;
+use table_schema::find::Tenant;
 use tenant_state::Inventory;
 use tenant_tables::tables::Tables;
 

@@ -6,14 +6,14 @@ ghost use Rattle.tenant_state.specs.Ordered.{is_ascending};
 ghost use Rattle.tenant_state.specs.Receipts.{Receipts as ListOfReceipts, is_before};
 ghost use Rattle.tenant_state.specs.State.{TenantState as StateOfTenant};
 ghost use Rattle.tenant_state.specs.Valid.{IsState, is_receipt};
-ghost use Rattle.table_reads.specs.Found.{receipt_values};
+ghost use Rattle.table_schema.specs.Found.{receipt_values};
 ghost use Rattle.tenant_rows.specs.Lists.{AreRowsOfState};
 ghost use Rattle.tenant_rows.specs.Rows.{row_of_receipt};
 
 use crate::inventory::inventory_from;
 use crate::parts::receipt_from;
 use std::alloc::{AllocError, Global};
-use table_reads::rows::{PoolRow, ReceiptRow, VersionRow};
+use table_schema::rows::{PoolRow, ReceiptRow, VersionRow};
 use table_schema::values::{Exception, State};
 use tenant_state::{Receipts, TenantState};
 

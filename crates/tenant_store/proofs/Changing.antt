@@ -10,9 +10,9 @@ use Rattle.tenant_rows.specs.Changes.{IsChangeable, Turns}
 use Rattle.tenant_rows.specs.Rows.{StandsFor}
 use Rattle.tenant_state.specs.State.{CanMake, Change, TenantState, after, epoch}
 use Rattle.tenant_tables.specs.Change.{Drops, IsNumber}
-use Rattle.table_reads.specs.Found.{Names}
+use Rattle.table_schema.specs.Found.{Names}
 use Rattle.table_schema.specs.Holds.{IsTenant}
-use Rattle.table_reads.specs.declared.find.Tenant.{Tenant}
+use Rattle.table_schema.specs.declared.find.Tenant.{Tenant}
 use Rattle.tenant_store.specs.Shown.{OneState}
 use Rattle.tenant_store.specs.Judged.{AreJudged, Counts, Forgets, Updates}
 

@@ -11,10 +11,10 @@ use Rattle.tenant_rows.specs.Lists.{IsOfState}
 use Rattle.tenant_rows.specs.Rows.{StandsFor, rows_of_versions}
 use Rattle.tenant_state.specs.Receipts.{Receipts}
 use Rattle.tenant_state.specs.State.{Inventory, TenantState, inventory_of, with_receipts}
-use Rattle.table_reads.specs.Found.{Names}
+use Rattle.table_schema.specs.Found.{Names}
 use Rattle.table_schema.specs.Holds.{of_tenant}
 use Rattle.table_schema.specs.Layout.{maps_table}
-use Rattle.table_reads.specs.declared.find.Tenant.{Tenant}
+use Rattle.table_schema.specs.declared.find.Tenant.{Tenant}
 use Rattle.tenant_store.specs.Judged.{AreJudged, Counts, Adds}
 
 module _ (db : Trees) (name : List ℕ) (tenant : Tenant) (names : Names db name (Some tenant)) where

@@ -22,9 +22,9 @@ use Rattle.tenant_state.specs.Receipts.{Receipts, is_before, receipt_of}
 use Rattle.tenant_state.specs.Valid.{is_receipt}
 use Rattle.tenant_state.specs.declared.receipts.Receipt.{Receipt}
 use Rattle.tenant_tables.proofs.RowFacts.{apart, equal_parts, equal_words, itself}
-use Rattle.table_reads.specs.Found.{AreReceipt, IsReceiptRow, IsRising, receipt_values}
+use Rattle.table_schema.specs.Found.{AreReceipt, IsReceiptRow, IsRising, receipt_values}
 use Rattle.table_schema.specs.Holds.{rows_with}
-use Rattle.table_reads.specs.declared.rows.ReceiptRow.{ReceiptRow}
+use Rattle.table_schema.specs.declared.rows.ReceiptRow.{ReceiptRow}
 
 -- ---- rows that rise have a text once
 

@@ -8,7 +8,7 @@ mod store;
 mod writing;
 
 pub use store::Store;
-pub use table_reads::rows::{PoolRow, ReceiptRow, VersionRow};
+pub use table_schema::rows::{PoolRow, ReceiptRow, VersionRow};
 pub use table_schema::values::{Exception, State};
 pub use tenant_core::{StoreFault, TenantStore};
 pub use tenant_rows::from_rows;

@@ -16,7 +16,7 @@ use crate::write::{Write, run_all};
 use sqlite::{Alter, Connection, Error, Row};
 use std::alloc::AllocError;
 use tenant_messages::StoreFault;
-use table_reads::rows::int_at;
+use table_schema::rows::int_at;
 use table_schema::first::is_first;
 use table_schema::refuse::{fault_of, refusal};
 use table_schema::schema::layout_of;

@@ -9,7 +9,7 @@ ghost use Rattle.table_schema.specs.Layout.{no_schema, first_schema, IsStoreSche
 ghost use Rattle.tenant_tables.specs.Opened.{HasVersion, IsKnown, IsBare, IsMigrated, IsStrange, SetsUp};
 ghost use Rattle.table_schema.specs.Ready.{Commits, IsReady};
 ghost use Rattle.table_schema.specs.Holds.{of_tenant};
-ghost use Rattle.table_reads.specs.Found.{Names, Lists, ListsBy, Precedes, IsExceptionRow, Begins, rows_above, receipt_values, receipts_with, AreReceipt, IsReceiptRow, version_values, pool_values, IsVersionRow, IsStateRow, IsPoolRow};
+ghost use Rattle.table_schema.specs.Found.{Names, Lists, ListsBy, Precedes, IsExceptionRow, Begins, rows_above, receipt_values, receipts_with, AreReceipt, IsReceiptRow, version_values, pool_values, IsVersionRow, IsStateRow, IsPoolRow};
 ghost use Rattle.tenant_tables.specs.Run.{AreSound, Makes};
 ghost use Rattle.sqlite.specs.Effect.{Database};
 ghost use Rattle.table_schema.specs.Values.{state_row, exception_row};
@@ -21,12 +21,12 @@ use sqlite::{Alter, Connection};
 use std::alloc::Global;
 use std::marker::Model;
 use tenant_messages::StoreFault;
-use table_reads::exceptions::exceptions_of;
-use table_reads::fault::ReadFault;
-use table_reads::find::{Tenant, find};
-use table_reads::lists::{devices_of, pools_of, receipt_of, versions_of};
-use table_reads::pages::{first_receipts, receipts_after};
-use table_reads::rows::{PoolRow, ReceiptRow, VersionRow};
+use table_schema::exceptions::exceptions_of;
+use table_schema::fault::ReadFault;
+use table_schema::find::{Tenant, find};
+use table_schema::lists::{devices_of, pools_of, receipt_of, versions_of};
+use table_schema::pages::{first_receipts, receipts_after};
+use table_schema::rows::{PoolRow, ReceiptRow, VersionRow};
 use table_schema::values::{Exception, State};
 
 /// The tables of a connection. Contracts see the connection, and whether a failure has latched the

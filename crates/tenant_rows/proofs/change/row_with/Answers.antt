@@ -6,7 +6,7 @@ use Rattle.std.proofs.lemmas.Int.{to_z-of_z}
 use Rattle.sqlite_rules.specs.Lists.{Has}
 use Rattle.sqlite_value.specs.Order.{column}
 use Rattle.sqlite_value.specs.declared.value.Value.TheVariants.{Int}
-use Rattle.table_reads.specs.Found.{pool_values}
+use Rattle.table_schema.specs.Found.{pool_values}
 use Rattle.tenant_rows.proofs.PairRows.{has_it, none_more}
 use Rattle.tenant_rows.proofs.Reading.{push_front}
 use Rattle.tenant_rows.proofs.change.row_with.Goals as goal

@@ -3,7 +3,7 @@ use Rattle.std.specs.Vec.Iter.{into_iter_items, into_iter_len}
 use Rattle.sqlite_rules.specs.Lists.{Has}
 use Rattle.sqlite_value.specs.Order.{Row, column}
 use Rattle.sqlite_value.specs.declared.value.Value.TheVariants.{Int}
-use Rattle.table_reads.specs.Found.{pool_values}
+use Rattle.table_schema.specs.Found.{pool_values}
 use Rattle.tenant_rows.proofs.change.row_with.Given as goal
 
 -- none of the rows so far has the id

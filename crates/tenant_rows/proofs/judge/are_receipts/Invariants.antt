@@ -1,6 +1,6 @@
 use Rattle.std.proofs.Common.{map, take}
 use Rattle.std.specs.List.{AllByRecursion}
-use Rattle.table_reads.specs.Found.{receipt_values}
+use Rattle.table_schema.specs.Found.{receipt_values}
 use Rattle.tenant_rows.specs.Pages.{IsOfReceipt}
 use Rattle.tenant_rows.proofs.judge.are_receipts.Given as goal
 

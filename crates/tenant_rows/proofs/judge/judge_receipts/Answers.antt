@@ -7,7 +7,7 @@ use Rattle.sqlite_value.specs.Order.{Row}
 use Rattle.sqlite.specs.Effect.{Database}
 use Rattle.sqlite.specs.Held.{state}
 use Rattle.sqlite.specs.State.{HasCleanDisk}
-use Rattle.table_reads.specs.Found.{Begins, rows_above, receipt_values}
+use Rattle.table_schema.specs.Found.{Begins, rows_above, receipt_values}
 use Rattle.table_schema.specs.Holds.{of_tenant}
 use Rattle.table_schema.specs.Layout.{receipts_table}
 use Rattle.tenant_rows.specs.Changes.{HasReceipts}

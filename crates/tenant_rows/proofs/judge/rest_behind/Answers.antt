@@ -2,8 +2,8 @@ use Rattle.std.proofs.Common.{◌≡◌, ◌++◌, [], ◌∷◌, Option, Some, 
 use Rattle.std.specs.Option.{option_to_list}
 use Rattle.std.specs.List.{AllByRecursion}
 use Rattle.std.proofs.lemmas.List.{length-map}
-use Rattle.table_reads.specs.Found.{receipt_values}
-use Rattle.table_reads.specs.declared.rows.ReceiptRow.{ReceiptRow}
+use Rattle.table_schema.specs.Found.{receipt_values}
+use Rattle.table_schema.specs.declared.rows.ReceiptRow.{ReceiptRow}
 use Rattle.tenant_rows.specs.Pages.{IsOfReceipt}
 use Rattle.tenant_rows.proofs.Pages.{each_of_page, not_more, not_fewer, whole, leaves_more}
 use Rattle.tenant_rows.proofs.judge.rest_behind.Goals as goal

@@ -1,6 +1,6 @@
 use Rattle.std.proofs.Common.{◌≡◌, rules, subst, sym}
 use Rattle.crush_map.specs.Map.{IsMap}
-use Rattle.table_reads.specs.Found.{version_values}
+use Rattle.table_schema.specs.Found.{version_values}
 use Rattle.tenant_rows.specs.Rows.{row_of_version}
 use Rattle.tenant_rows.proofs.parts.version_from.Goals as goal
 

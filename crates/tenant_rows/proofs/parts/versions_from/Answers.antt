@@ -4,7 +4,7 @@ use Rattle.std.specs.Vec.Iter.{into_iter_items}
 use Rattle.std.proofs.lemmas.List.{map_push, length-map}
 use Rattle.std.proofs.lemmas.List.Elements.{All-push}
 use Rattle.crush_map.specs.Map.{IsMap}
-use Rattle.table_reads.specs.Found.{version_values}
+use Rattle.table_schema.specs.Found.{version_values}
 use Rattle.tenant_rows.specs.Rows.{rows_of_versions}
 use Rattle.tenant_rows.proofs.Reading.{no_versions, more, push_front, longer}
 use Rattle.tenant_rows.proofs.parts.versions_from.Goals as goal

@@ -2,7 +2,7 @@ use Rattle.std.proofs.Common.{◌≡◌, ◌++◌, length, map}
 use Rattle.std.specs.List.{All}
 use Rattle.std.specs.Vec.Iter.{into_iter_items, into_iter_len}
 use Rattle.crush_map.specs.Map.{IsMap}
-use Rattle.table_reads.specs.Found.{version_values}
+use Rattle.table_schema.specs.Found.{version_values}
 use Rattle.tenant_rows.specs.Rows.{rows_of_versions}
 use Rattle.tenant_rows.proofs.parts.versions_from.Given as goal
 

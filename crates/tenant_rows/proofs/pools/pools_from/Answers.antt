@@ -9,7 +9,7 @@ use Rattle.sqlite_keyed.proofs.ListLemmas.{list_all_push}
 use Rattle.tenant_state.specs.Ordered.{is_ascending}
 use Rattle.tenant_state.specs.State.{is_lower_pool}
 use Rattle.tenant_state.specs.Valid.{is_tenant_pool}
-use Rattle.table_reads.specs.Found.{pool_values}
+use Rattle.table_schema.specs.Found.{pool_values}
 use Rattle.table_schema.specs.Values.{exception_row}
 use Rattle.tenant_rows.specs.Rows.{row_of_pool, rows_of_exceptions}
 use Rattle.tenant_rows.proofs.PairRows.{count_of, its_own, next_read, pairs_read, same_pools, there_are}

@@ -3,7 +3,7 @@ use Rattle.std.specs.List.{list_all}
 use Rattle.std.specs.Vec.Iter.{into_iter_items, into_iter_len}
 use Rattle.tenant_state.specs.Valid.{is_tenant_pool}
 use Rattle.table_schema.specs.Values.{exception_row}
-use Rattle.table_reads.specs.Found.{pool_values}
+use Rattle.table_schema.specs.Found.{pool_values}
 use Rattle.tenant_rows.specs.Rows.{row_of_pool, rows_of_exceptions}
 use Rattle.tenant_rows.proofs.pools.pools_from.Given as goal
 

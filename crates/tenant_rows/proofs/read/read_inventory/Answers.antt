@@ -6,7 +6,7 @@ use Rattle.std.proofs.lemmas.Result.{err_from_is_err_and}
 use Rattle.sqlite.specs.Held.{state}
 use Rattle.sqlite.specs.State.{HasCleanDisk}
 use Rattle.table_schema.specs.Values.{state_row, exception_row}
-use Rattle.table_reads.specs.Found.{Lists, ListsBy, Precedes, version_values, pool_values}
+use Rattle.table_schema.specs.Found.{Lists, ListsBy, Precedes, version_values, pool_values}
 use Rattle.table_schema.specs.Holds.{of_tenant}
 use Rattle.table_schema.specs.Layout.{maps_table, devices_table, pools_table, exceptions_table}
 use Rattle.tenant_rows.specs.Changes.{HasRows}

@@ -5,8 +5,8 @@ use Rattle.std.proofs.lemmas.Int.{to_z-of_z}
 use Rattle.tenant_state.specs.Receipts.{Receipts}
 use Rattle.tenant_state.specs.State.{Inventory, inventory_of}
 use Rattle.tenant_state.specs.Valid.{IsState}
-use Rattle.table_reads.specs.Found.{receipt_values}
-use Rattle.table_reads.specs.declared.rows.ReceiptRow.{ReceiptRow}
+use Rattle.table_schema.specs.Found.{receipt_values}
+use Rattle.table_schema.specs.declared.rows.ReceiptRow.{ReceiptRow}
 use Rattle.tenant_rows.specs.Lists.{AreRowsOf, AreRowsOfState}
 use Rattle.tenant_rows.specs.Rows.{row_of_receipt}
 use Rattle.tenant_rows.proofs.Counting.{count_rows}

@@ -4,7 +4,7 @@ use Rattle.std.specs.Vec.Iter.{into_iter_items, into_iter_len}
 use Rattle.tenant_state.specs.Ordered.{is_ascending}
 use Rattle.tenant_state.specs.Receipts.{Receipts, is_before}
 use Rattle.tenant_state.specs.Valid.{is_receipt}
-use Rattle.table_reads.specs.Found.{receipt_values}
+use Rattle.table_schema.specs.Found.{receipt_values}
 use Rattle.tenant_rows.specs.Rows.{row_of_receipt}
 use Rattle.tenant_rows.proofs.Reading.{no_list, same_list, same_receipt, whole, refused}
 use Rattle.tenant_rows.proofs.state.receipts_from.Goals as goal

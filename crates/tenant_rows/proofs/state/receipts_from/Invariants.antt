@@ -2,7 +2,7 @@ use Rattle.std.proofs.Common.{◌≡◌, ◌++◌, length, map, string_bytes, tr
 use Rattle.std.specs.List.{list_all}
 use Rattle.std.specs.Vec.Iter.{into_iter_items, into_iter_len}
 use Rattle.tenant_state.specs.Valid.{is_receipt}
-use Rattle.table_reads.specs.Found.{receipt_values}
+use Rattle.table_schema.specs.Found.{receipt_values}
 use Rattle.tenant_rows.specs.Rows.{row_of_receipt}
 use Rattle.tenant_rows.proofs.state.receipts_from.Given as goal
 

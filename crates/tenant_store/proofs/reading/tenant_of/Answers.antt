@@ -2,7 +2,7 @@ use Rattle.std.proofs.Common.{arith, subst}
 use Rattle.std.proofs.lemmas.Result.{err_from_is_err_and}
 use Rattle.sqlite.specs.Held.{state}
 use Rattle.sqlite.specs.State.{HasCleanDisk}
-use Rattle.table_reads.specs.Found.{Names}
+use Rattle.table_schema.specs.Found.{Names}
 use Rattle.tenant_store.proofs.Judging.{not_absent, there}
 use Rattle.tenant_store.proofs.Refusing.{same_fault}
 use Rattle.tenant_store.proofs.reading.tenant_of.Goals as goal

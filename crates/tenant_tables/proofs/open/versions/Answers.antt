@@ -4,7 +4,7 @@ use Rattle.sqlite.specs.State.{HasCleanDisk, IsUnchanged}
 use Rattle.std.proofs.lemmas.Result.{IfOk-weaker, IfErr-weaker}
 use Rattle.table_schema.specs.Ready.{Rests}
 use Rattle.tenant_tables.proofs.Versions.{versions_text, asks_versions, finds_versions}
-use Rattle.table_reads.proofs.QueryFacts.{shown_unchanged, commits_nothing, fails_rests}
+use Rattle.table_schema.proofs.QueryFacts.{shown_unchanged, commits_nothing, fails_rests}
 use Rattle.tenant_tables.proofs.open.versions.Goals as goal
 
 pub returns-clause-found : goal.returns-clause-found

@@ -3,7 +3,7 @@ use Rattle.sqlite_trees.specs.Tree.{Trees}
 use Rattle.sqlite.specs.Effect.{Database}
 use Rattle.sqlite.specs.Held.{state}
 use Rattle.sqlite.specs.State.{HasCleanDisk}
-use Rattle.table_reads.proofs.Asking.{remains}
+use Rattle.table_schema.proofs.Asking.{remains}
 use Rattle.tenant_tables.proofs.Opening.{bare_again, migrated_again}
 use Rattle.tenant_tables.proofs.tables.Tables.open.Goals as goal
 

@@ -1,9 +1,0 @@
-pub mod QueryFacts
-pub mod Asking
-pub mod Columns
-pub mod Rising
-pub mod Listing
-pub mod Paging
-pub mod Placing
-pub mod Failing
-pub mod Safe
