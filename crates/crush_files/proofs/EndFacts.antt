@@ -23,7 +23,7 @@ use Rattle.tenant_files.specs.Stored.{MayStandFor}
 use Rattle.tenant_files.specs.Used.{AreAsBefore}
 use Rattle.tenant_files.specs.declared.fault.FileFault.{FileFault}
 use Rattle.tenant_files.specs.declared.fault.FileFault.TheVariants.{Store}
-use Rattle.tenant_rows.specs.Rows.{StandsFor, StatesIn}
+use Rattle.tenant_tables.specs.Rows.{StandsFor, StatesIn}
 use Rattle.tenant_store.specs.Shown.{HasState, IsHonest, MayLeave}
 use Rattle.tenant_watched.specs.Laws.{works_below}
 use Rattle.crush_app.proofs.Ending.{ends_map, keeps_itself}

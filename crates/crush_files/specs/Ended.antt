@@ -11,7 +11,7 @@ use Rattle.sqlite.specs.Held.{Held}
 use Rattle.tenant_files.specs.Stored.{MayStandFor}
 use Rattle.tenant_files.specs.Used.{AreAsBefore, UsesFile, UsesFiles}
 use Rattle.tenant_files.specs.declared.fault.FileFault.{FileFault}
-use Rattle.tenant_rows.specs.Rows.{StandsFor, StatesIn}
+use Rattle.tenant_tables.specs.Rows.{StandsFor, StatesIn}
 use Rattle.crush_app.specs.End.{EndsScript}
 use Rattle.crush_app.specs.Play.{PlaysScript}
 use Rattle.crush_app.specs.declared.play.ScriptEnd.{ScriptEnd}

@@ -24,7 +24,7 @@ use Rattle.tenant_files.specs.declared.fault.FileFault.{FileFault}
 use Rattle.tenant_service.specs.Served.{IsSession, ServesSession}
 use Rattle.tenant_messages.specs.declared.call.Call.{Call}
 use Rattle.tenant_messages.specs.declared.reply.Reply.{Reply}
-use Rattle.tenant_rows.specs.Rows.{StandsFor, StatesIn}
+use Rattle.tenant_tables.specs.Rows.{StandsFor, StatesIn}
 use Rattle.tenant_store.specs.Shown.{HasState, IsHonest, MayLeave}
 use Rattle.tenant_watched.specs.Laws.{works_below}
 use Rattle.crush_server.proofs.Each.{clients_map}

@@ -13,7 +13,7 @@ use Rattle.tenant_files.specs.declared.fault.FileFault.{FileFault}
 use Rattle.tenant_service.specs.Served.{ServesSession}
 use Rattle.tenant_messages.specs.declared.call.Call.{Call}
 use Rattle.tenant_messages.specs.declared.reply.Reply.{Reply}
-use Rattle.tenant_rows.specs.Rows.{StandsFor, StatesIn}
+use Rattle.tenant_tables.specs.Rows.{StandsFor, StatesIn}
 use Rattle.crush_server.specs.Clients.{Clients, ServesClients}
 use Rattle.crush_server.specs.declared.fault.ServerFault.{ServerFault}
 use Rattle.crush_server.specs.declared.fault.ServerFault.TheVariants.{NoMemory, Store, CannotListen, WriteFault}

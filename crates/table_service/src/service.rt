@@ -6,7 +6,7 @@ ghost use Rattle.sqlite.specs.State.{HasCleanDisk};
 ghost use Rattle.sqlite_trees.specs.Tree.{Trees};
 ghost use Rattle.sqlite_trees.specs.View.{IsClean};
 ghost use Rattle.tenant_core.specs.States.{Same};
-ghost use Rattle.tenant_rows.specs.Rows.{StandsFor, StatesIn};
+ghost use Rattle.tenant_tables.specs.Rows.{StandsFor, StatesIn};
 ghost use Rattle.tenant_store.specs.Shown.{IsHonest};
 ghost use Rattle.tenant_tables.specs.Opened.{IsStrange};
 

@@ -23,7 +23,7 @@ use Rattle.sqlite.specs.State.{HasCleanDisk}
 use Rattle.sqlite.specs.declared.file.Leftover.{Leftover}
 use Rattle.sqlite.specs.declared.file.Leftover.TheVariants as left
 use Rattle.tenant_core.specs.States.{Same}
-use Rattle.tenant_rows.specs.Rows.{StandsFor, StatesIn}
+use Rattle.tenant_tables.specs.Rows.{StandsFor, StatesIn}
 use Rattle.tenant_store.specs.Laws.{left_alone}
 use Rattle.tenant_store.specs.Replaced.{Replaces}
 use Rattle.tenant_store.specs.Shown.{IsHonest}

@@ -5,8 +5,8 @@ use Rattle.sqlite.specs.Effect.{Database}
 use Rattle.tenant_core.specs.States.{States, Same, IsDamaged, MeetsDefinition}
 use Rattle.tenant_messages.specs.declared.call.Call.{Call}
 use Rattle.tenant_messages.specs.declared.reply.Reply.{Reply}
-use Rattle.tenant_rows.proofs.Migrated.{found_states}
-use Rattle.tenant_rows.specs.Rows.{StandsFor, StatesIn}
+use Rattle.tenant_tables.proofs.Migrated.{found_states}
+use Rattle.tenant_tables.specs.Rows.{StandsFor, StatesIn}
 use Rattle.table_schema.specs.Layout.{IsStoreSchema}
 
 -- ---- states that are the same

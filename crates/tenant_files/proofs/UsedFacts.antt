@@ -15,7 +15,7 @@ use Rattle.sqlite.specs.State.{HasCleanDisk}
 use Rattle.table_schema.specs.Layout.{IsStoreSchema}
 use Rattle.table_schema.specs.Ready.{IsReady}
 use Rattle.tenant_core.specs.States.{Damaged, Found, HasState, Outcomes, Same, Shows, States}
-use Rattle.tenant_rows.specs.Rows.{StandsFor, StatesIn}
+use Rattle.tenant_tables.specs.Rows.{StandsFor, StatesIn}
 use Rattle.tenant_store.specs.Laws.{left_alone}
 use Rattle.tenant_store.specs.Shown.{IsHonest}
 use Rattle.tenant_files.proofs.ClosedFacts.{given_clean}

@@ -14,7 +14,7 @@ use Rattle.sqlite.specs.Held.{Held}
 use Rattle.sqlite.specs.declared.file.Leftover.{Leftover}
 use Rattle.tenant_core.specs.States.{Same}
 use Rattle.tenant_files.specs.Opened.{Finds}
-use Rattle.tenant_rows.specs.Rows.{StandsFor, StatesIn}
+use Rattle.tenant_tables.specs.Rows.{StandsFor, StatesIn}
 
 -- The database refused the files: `first` are the files as they were opened, which held what they
 -- hold after a crash too, and `rest` is what the opening left of them. The toolchain says of it

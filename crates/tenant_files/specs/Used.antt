@@ -14,7 +14,7 @@ use Rattle.tenant_files.specs.Closed.{GivesBack}
 use Rattle.tenant_files.specs.Opened.{Finds}
 use Rattle.tenant_files.specs.Stored.{MayStandFor}
 use Rattle.tenant_files.specs.declared.fault.FileFault.{FileFault}
-use Rattle.tenant_rows.specs.Rows.{StandsFor, StatesIn}
+use Rattle.tenant_tables.specs.Rows.{StandsFor, StatesIn}
 
 -- the tenants are as before, also after a crash
 pub record AreAsBefore (old new : States) (may_leave : Outcomes) : Type 0 where

@@ -5,10 +5,10 @@ use Rattle.crush_map.specs.Map.{Map}
 use Rattle.sqlite_trees.specs.Tree.{Trees}
 use Rattle.sqlite_value.specs.Order.{Row}
 use Rattle.tenant_core.specs.States.{HasInventory, IsDamaged}
-use Rattle.tenant_rows.proofs.Whole.{has_receipts, has_rows, is_found, is_of_state, nat_is, stands_for_found}
-use Rattle.tenant_rows.specs.Changes.{HasReceipts, HasRows}
-use Rattle.tenant_rows.specs.Lists.{IsOfState}
-use Rattle.tenant_rows.specs.Rows.{StandsFor, rows_of_versions}
+use Rattle.tenant_tables.proofs.Whole.{has_receipts, has_rows, is_found, is_of_state, nat_is, stands_for_found}
+use Rattle.tenant_tables.specs.Changes.{HasReceipts, HasRows}
+use Rattle.tenant_tables.specs.Lists.{IsOfState}
+use Rattle.tenant_tables.specs.Rows.{StandsFor, rows_of_versions}
 use Rattle.tenant_state.specs.Receipts.{Receipts}
 use Rattle.tenant_state.specs.State.{Inventory, TenantState, inventory_of, with_receipts}
 use Rattle.table_schema.specs.Found.{Names}

@@ -4,8 +4,8 @@ use Rattle.sqlite.specs.Effect.{Database}
 use Rattle.sqlite_trees.specs.Tree.{Trees}
 use Rattle.table_schema.specs.Layout.{no_schema, first_schema, IsStoreSchema}
 use Rattle.tenant_core.specs.States.{Same}
-use Rattle.tenant_rows.proofs.Migrated.{found_states, set_up_states}
-use Rattle.tenant_rows.specs.Rows.{StandsFor, StatesIn}
+use Rattle.tenant_tables.proofs.Migrated.{found_states, set_up_states}
+use Rattle.tenant_tables.specs.Rows.{StandsFor, StatesIn}
 use Rattle.tenant_tables.specs.Opened.{HasVersion, IsBare, IsKnown, IsMigrated, SetsUp}
 use Rattle.tenant_store.specs.Replaced.{Replaces}
 

@@ -14,9 +14,9 @@ use Rattle.sqlite_value.specs.Order.{Row, column, value_cmp}
 use Rattle.sqlite_value.specs.declared.keys.Collation.TheVariants.{Binary}
 use Rattle.sqlite_value.specs.declared.value.Value.TheVariants.{Text as Words}
 use Rattle.tenant_messages.specs.Reply.{success_status}
-use Rattle.tenant_rows.proofs.Orders.{receipts_rise}
-use Rattle.tenant_rows.proofs.Reading.{same_receipt}
-use Rattle.tenant_rows.specs.Rows.{row_of_receipt}
+use Rattle.tenant_tables.proofs.Orders.{receipts_rise}
+use Rattle.tenant_tables.proofs.Reading.{same_receipt}
+use Rattle.tenant_tables.specs.Rows.{row_of_receipt}
 use Rattle.tenant_state.specs.Ordered.{is_ascending}
 use Rattle.tenant_state.specs.Receipts.{Receipts, is_before, receipt_of}
 use Rattle.tenant_state.specs.Valid.{is_receipt}

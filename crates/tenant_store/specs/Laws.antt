@@ -6,7 +6,7 @@ use Rattle.sqlite.specs.Held.{Held, state}
 use Rattle.sqlite.specs.Store.{Ghosts}
 use Rattle.sqlite_trees.specs.Tree.{Trees}
 use Rattle.tenant_core.specs.States.{Found, Same, Shows}
-use Rattle.tenant_rows.specs.Rows.{StandsFor}
+use Rattle.tenant_tables.specs.Rows.{StandsFor}
 use Rattle.table_schema.specs.Ready.{IsReady}
 
 module _ {S : Type 0} (g : Ghosts S) where

@@ -4,7 +4,7 @@ use Rattle.sqlite.specs.Effect.{Database}
 use Rattle.sqlite_trees.specs.Tree.{Trees}
 use Rattle.table_schema.specs.Layout.{no_schema, first_schema}
 use Rattle.tenant_core.specs.States.{Same}
-use Rattle.tenant_rows.specs.Rows.{StandsFor, StatesIn}
+use Rattle.tenant_tables.specs.Rows.{StandsFor, StatesIn}
 use Rattle.tenant_tables.specs.Opened.{HasVersion}
 
 -- The rows are those of schema 2, whole, in the place of no tables, or of those of schema 1. They

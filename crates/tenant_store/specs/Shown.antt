@@ -6,7 +6,7 @@ use Rattle.sqlite.specs.State.{HasCleanDisk}
 use Rattle.sqlite.specs.Store.{Ghosts}
 use Rattle.sqlite_trees.specs.Tree.{Trees}
 use Rattle.tenant_core.specs.States.{Found, Shows}
-use Rattle.tenant_rows.specs.Rows.{StandsFor}
+use Rattle.tenant_tables.specs.Rows.{StandsFor}
 use Rattle.tenant_state.specs.State.{TenantState}
 use Rattle.table_schema.specs.Ready.{IsReady}
 

@@ -5,14 +5,14 @@ ghost use Rattle.sqlite.specs.Held.{Held, state};
 ghost use Rattle.sqlite.specs.State.{HasCleanDisk};
 ghost use Rattle.sqlite_trees.specs.Tree.{Trees};
 ghost use Rattle.tenant_core.specs.States.{Found, Shows};
-ghost use Rattle.tenant_rows.specs.Rows.{StandsFor};
+ghost use Rattle.tenant_tables.specs.Rows.{StandsFor};
 ghost use Rattle.tenant_state.specs.State.{TenantState};
 ghost use Rattle.table_schema.specs.Ready.{IsReady};
 
 use crate::store::Store;
 use sqlite::Alter;
 use tenant_core::TenantStore;
-use tenant_rows::laws::names_stand_for_one_state;
+use tenant_tables::laws::names_stand_for_one_state;
 
 /// States that a store over tables says what its rows stand for. It is honest where the disk has
 /// returned what was written, and the connection is open with this service's tables, unless a call

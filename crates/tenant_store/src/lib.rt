@@ -11,4 +11,4 @@ pub use store::Store;
 pub use table_schema::rows::{PoolRow, ReceiptRow, VersionRow};
 pub use table_schema::values::{Exception, State};
 pub use tenant_core::{StoreFault, TenantStore};
-pub use tenant_rows::from_rows;
+pub use tenant_tables::from_rows;

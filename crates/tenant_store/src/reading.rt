@@ -16,9 +16,9 @@ ghost use Rattle.tenant_state.specs.Valid.{is_receipt};
 ghost use Rattle.table_schema.specs.Found.{AreReceipt, Names};
 ghost use Rattle.table_schema.specs.Holds.{rows_with};
 ghost use Rattle.table_schema.specs.Ready.{IsReady};
-ghost use Rattle.tenant_rows.specs.Changes.{HasReceipts, HasRows};
-ghost use Rattle.tenant_rows.specs.Lists.{IsOfState};
-ghost use Rattle.tenant_rows.specs.Rows.{StandsFor, row_of_receipt};
+ghost use Rattle.tenant_tables.specs.Changes.{HasReceipts, HasRows};
+ghost use Rattle.tenant_tables.specs.Lists.{IsOfState};
+ghost use Rattle.tenant_tables.specs.Rows.{StandsFor, row_of_receipt};
 ghost use Rattle.tenant_store.specs.Judged.{AreJudged};
 
 use crate::judged::{Judged, remember};
@@ -28,7 +28,7 @@ use std::rc::Rc;
 use table_schema::find::Tenant;
 use table_schema::rows::ReceiptRow;
 use tenant_core::StoreFault;
-use tenant_rows::{judge_receipts, read_inventory, receipt_from};
+use tenant_tables::{judge_receipts, read_inventory, receipt_from};
 use tenant_state::{Inventory, Receipt};
 use tenant_tables::tables::Tables;
 

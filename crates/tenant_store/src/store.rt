@@ -8,7 +8,7 @@ ghost use Rattle.sqlite_trees.specs.View.{IsClean};
 ghost use Rattle.table_schema.specs.Layout.{no_schema, first_schema, IsStoreSchema};
 ghost use Rattle.tenant_core.specs.States.{Same};
 ghost use Rattle.tenant_tables.specs.Opened.{HasVersion, IsKnown, IsStrange};
-ghost use Rattle.tenant_rows.specs.Rows.{StandsFor, StatesIn};
+ghost use Rattle.tenant_tables.specs.Rows.{StandsFor, StatesIn};
 ghost use Rattle.tenant_store.specs.Replaced.{Replaces};
 ghost use Rattle.tenant_store.specs.Shown.{IsHonest};
 
@@ -21,7 +21,7 @@ use std::collections::BTreeMap;
 use std::marker::Model;
 use std::rc::Rc;
 use tenant_core::{StoreFault, TenantStore};
-use tenant_rows::laws::names_stand_for_one_state;
+use tenant_tables::laws::names_stand_for_one_state;
 use tenant_state::{Change, Inventory, Receipt};
 use tenant_tables::tables::Tables;
 

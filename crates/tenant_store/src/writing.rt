@@ -7,8 +7,8 @@ ghost use Rattle.sqlite.specs.Held.{state};
 ghost use Rattle.sqlite.specs.State.{HasCleanDisk, Survives};
 ghost use Rattle.tenant_core.specs.StoreReply.{is_failed};
 ghost use Rattle.tenant_state.specs.State.{CanMake, TenantState, after};
-ghost use Rattle.tenant_rows.specs.Changes.{Turns};
-ghost use Rattle.tenant_rows.specs.Rows.{StandsFor};
+ghost use Rattle.tenant_tables.specs.Changes.{Turns};
+ghost use Rattle.tenant_tables.specs.Rows.{StandsFor};
 ghost use Rattle.tenant_store.specs.Judged.{AreJudged};
 
 use crate::judged::{Judged, update};
@@ -16,7 +16,7 @@ use crate::reading::{count_versions, tenant_of};
 use sqlite::Alter;
 use std::alloc::Global;
 use tenant_core::StoreFault;
-use tenant_rows::write_change;
+use tenant_tables::write_change;
 use tenant_state::{Change, Made};
 use tenant_tables::tables::Tables;
 

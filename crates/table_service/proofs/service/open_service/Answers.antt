@@ -5,7 +5,7 @@ use Rattle.sqlite.specs.Held.{state}
 use Rattle.sqlite.specs.State.{HasCleanDisk}
 use Rattle.sqlite_trees.specs.Tree.{Trees}
 use Rattle.tenant_core.specs.States.{Same}
-use Rattle.tenant_rows.specs.Rows.{StandsFor, StatesIn}
+use Rattle.tenant_tables.specs.Rows.{StandsFor, StatesIn}
 use Rattle.tenant_store.specs.Laws.{left_alone}
 use Rattle.tenant_store.specs.Shown.{IsHonest}
 use Rattle.table_service.proofs.service.open_service.Goals as goal

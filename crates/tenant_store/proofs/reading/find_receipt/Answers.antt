@@ -8,9 +8,9 @@ use Rattle.sqlite_value.specs.Order.{Row}
 use Rattle.table_schema.specs.Found.{AreReceipt, IsReceiptRow, receipts_with}
 use Rattle.table_schema.specs.Holds.{of_tenant}
 use Rattle.table_schema.specs.Layout.{receipts_table}
-use Rattle.tenant_rows.proofs.Accepted.{word_is}
-use Rattle.tenant_rows.proofs.Listed.{moved}
-use Rattle.tenant_rows.proofs.Whole.{has_receipts}
+use Rattle.tenant_tables.proofs.Accepted.{word_is}
+use Rattle.tenant_tables.proofs.Listed.{moved}
+use Rattle.tenant_tables.proofs.Whole.{has_receipts}
 use Rattle.tenant_store.proofs.Refusing.{same_fault}
 use Rattle.tenant_store.proofs.Receipts.{not_damaged}
 use Rattle.tenant_store.proofs.reading.find_receipt.Goals as goal

@@ -4,7 +4,7 @@ use Rattle.std.proofs.lemmas.Result.{err_from_is_err_and}
 use Rattle.sqlite.specs.Effect.{Database}
 use Rattle.sqlite.specs.Held.{state}
 use Rattle.sqlite.specs.State.{HasCleanDisk}
-use Rattle.tenant_rows.specs.Rows.{StandsFor}
+use Rattle.tenant_tables.specs.Rows.{StandsFor}
 use Rattle.tenant_state.specs.State.{TenantState, inventory_of}
 use Rattle.tenant_store.specs.Judged.{AreJudged}
 use Rattle.tenant_store.proofs.Refusing.{same_fault, live_at_ok}

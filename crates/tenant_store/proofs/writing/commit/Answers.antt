@@ -4,8 +4,8 @@ use Rattle.sqlite.proofs.StateLemmas.{survives_weaker}
 use Rattle.sqlite.specs.Effect.{Database}
 use Rattle.sqlite.specs.Held.{state}
 use Rattle.sqlite.specs.State.{HasCleanDisk}
-use Rattle.tenant_rows.specs.Changes.{Turns}
-use Rattle.tenant_rows.specs.Rows.{StandsFor}
+use Rattle.tenant_tables.specs.Changes.{Turns}
+use Rattle.tenant_tables.specs.Rows.{StandsFor}
 use Rattle.tenant_state.specs.State.{after}
 use Rattle.tenant_store.specs.Judged.{AreJudged}
 use Rattle.tenant_store.proofs.Changing.{commit_survives, is_changeable, nothing_left, still_judged}

@@ -2,8 +2,8 @@ use Rattle.std.proofs.Common.{Some, arith}
 use Rattle.std.proofs.lemmas.Result.{on_ok_weaker}
 use Rattle.sqlite.specs.Held.{state}
 use Rattle.sqlite.specs.State.{HasCleanDisk}
-use Rattle.tenant_rows.specs.Changes.{Turns}
-use Rattle.tenant_rows.specs.Rows.{StandsFor}
+use Rattle.tenant_tables.specs.Changes.{Turns}
+use Rattle.tenant_tables.specs.Rows.{StandsFor}
 use Rattle.tenant_state.specs.State.{CanMake, TenantState, after}
 use Rattle.tenant_store.proofs.Changing.{can_make}
 use Rattle.tenant_store.proofs.Stopping.{as_it_was_or}

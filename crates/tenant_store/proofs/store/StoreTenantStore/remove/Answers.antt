@@ -2,7 +2,7 @@ use Rattle.std.proofs.Common.{None, arith}
 use Rattle.std.specs.BTreeMap.{get_by_text}
 use Rattle.sqlite.specs.Held.{state}
 use Rattle.sqlite.specs.State.{HasCleanDisk}
-use Rattle.tenant_rows.specs.Changes.{Turns}
+use Rattle.tenant_tables.specs.Changes.{Turns}
 use Rattle.tenant_store.proofs.Changing.{forgotten_judged}
 use Rattle.tenant_store.proofs.Stopping.{as_it_was_or}
 use Rattle.tenant_store.proofs.store.StoreTenantStore.remove.Goals as goal

@@ -1,5 +1,0 @@
-use Rattle.tenant_rows.proofs.OneState.{one_state}
-use Rattle.tenant_rows.proofs.laws.names_stand_for_one_state.Goals as goal
-
-pub returns : goal.returns
-returns c = one_state c.written_maps_are_read_back.ensures.stored

@@ -1,5 +1,0 @@
-pub mod Changes
-pub mod Commits
-pub mod Lists
-pub mod Pages
-pub mod Rows
