@@ -10,8 +10,7 @@ use std::alloc::{AllocError, Global};
 use std::io::{Read, Write};
 use std::num::NonZeroUsize;
 use tenant_files::{Closed, FileFault, close_ready, ready_over};
-use tenant_store::Store;
-use tenant_watched::Watch;
+use tenant_store::{Store, Watch};
 
 /// Plays a script on the tenants of a store over a database file, keeps the placements of
 /// `placements` groups, and returns how that ended, with the files that were given back.

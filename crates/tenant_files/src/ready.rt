@@ -15,8 +15,7 @@ use std::alloc::Global;
 use std::num::NonZeroUsize;
 use tenant_cache::{Bytes, CachedStore};
 use tenant_core::TenantStore;
-use tenant_store::Store;
-use tenant_watched::{Watch, WatchedStore};
+use tenant_store::{Store, Watch, WatchedStore};
 
 /// The greatest number of bytes of what tenants have that are kept in memory, where more than one
 /// tenant's are: 256 MiB. Hundreds of tenants with maps of middling size fit, and most of a small

@@ -5,7 +5,7 @@ use std::fs::{self, Metadata};
 use std::io::{self, ErrorKind};
 use std::os::unix::fs::MetadataExt;
 use std::rt::HostRuntime;
-use tenant_watched::Watch;
+use tenant_store::Watch;
 
 /// The identity of a file that was found, and its length in bytes.
 #[derive(Clone, Copy)]

@@ -5,3 +5,4 @@ pub mod Opening
 pub mod Receipts
 pub mod Refusing
 pub mod Stopping
+pub mod Watching

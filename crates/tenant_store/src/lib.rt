@@ -6,9 +6,13 @@ pub mod laws;
 mod reading;
 mod store;
 mod writing;
+mod watch;
+mod watched_store;
 
 pub use store::Store;
 pub use table_schema::rows::{PoolRow, ReceiptRow, VersionRow};
 pub use table_schema::values::{Exception, State};
 pub use tenant_core::{StoreFault, TenantStore};
 pub use tenant_tables::from_rows;
+pub use watch::Watch;
+pub use watched_store::WatchedStore;

@@ -4,7 +4,7 @@ ghost use Rattle.std.specs.Prelude.{◌≡◌, ◌≢◌, ◌⊎◌, ◌↔◌, 
 ghost use Rattle.tenant_state.specs.State.{CanMake, TenantState, fresh, after};
 ghost use Rattle.tenant_core.specs.States.{LeavesAsItWasOr};
 ghost use Rattle.tenant_core.specs.StoreReply.{is_failed};
-ghost use Rattle.tenant_watched.specs.Looks.{FindsFiles, next_look};
+ghost use Rattle.tenant_store.specs.Looks.{FindsFiles, next_look};
 
 use crate::watch::Watch;
 use std::marker::Model;
@@ -37,7 +37,7 @@ impl<T: TenantStore, W: Watch> Model for WatchedStore<T, W> {
 
 impl<T: TenantStore, W: Watch> WatchedStore<T, W> {
     ghost use Rattle.std.specs.Prelude.{◌≡◌, ◌||◌, not, true, false};
-    ghost use Rattle.tenant_watched.specs.Looks.{Looks};
+    ghost use Rattle.tenant_store.specs.Looks.{Looks};
 
     /// Makes a store over `below`, whose files `watch` looks at. Allocates nothing.
     pub fn over(below: T, watch: W) -> Self
@@ -92,7 +92,7 @@ impl<T: TenantStore, W: Watch + Drop> WatchedStore<T, W> {
 
 impl<T: TenantStore, W: Watch> TenantStore for WatchedStore<T, W> {
     ghost use Rattle.std.specs.Prelude.{◌≡◌, ◌||◌, ℕ, List, false};
-    ghost use Rattle.tenant_watched.specs.Laws.{works_below};
+    ghost use Rattle.tenant_store.specs.WatchedLaws.{works_below};
 
     ghost is_honest = { λ store. T.is_honest store.0.0 };
 

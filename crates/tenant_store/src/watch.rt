@@ -1,7 +1,7 @@
 //! The watch on the files of a store.
 
 ghost use Rattle.std.specs.Prelude.{◌≡◌, List, Bool, Option, None};
-ghost use Rattle.tenant_watched.specs.Looks.{Looks};
+ghost use Rattle.tenant_store.specs.Looks.{Looks};
 
 /// Looks whether the files of a store are where they were when it was opened, so that the next
 /// opening finds what is written to them.

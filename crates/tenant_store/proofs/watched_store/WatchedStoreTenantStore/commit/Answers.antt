@@ -1,7 +1,7 @@
 use Rattle.std.proofs.Common.{rules, ◌≡◌, true, Some, is_ok}
 use Rattle.tenant_state.specs.State.{after}
-use Rattle.tenant_watched.proofs.Watching.{left_missed}
-use Rattle.tenant_watched.proofs.watched_store.WatchedStoreTenantStore.commit.Goals as goal
+use Rattle.tenant_store.proofs.Watching.{left_missed}
+use Rattle.tenant_store.proofs.watched_store.WatchedStoreTenantStore.commit.Goals as goal
 
 -- the change was made, and an opening may find it
 pub returns-then-misses_after-clause-crash : goal.returns-then-misses_after-clause-crash
