@@ -6,3 +6,4 @@ pub mod LongTexts
 pub mod Playing
 pub mod Stopping
 pub mod Texts
+pub mod FromNothing

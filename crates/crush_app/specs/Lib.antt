@@ -3,3 +3,4 @@ pub mod Play
 pub mod End
 pub mod Check
 pub mod Private
+pub mod FromNothing

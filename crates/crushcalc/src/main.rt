@@ -3,10 +3,9 @@
 
 use clap::Error;
 use clap::error::ErrorKind;
-use crush_app::{CheckEnd, ScriptEnd, check_run};
+use crush_app::{CheckEnd, ScriptEnd, check_run, script_in_memory};
 use crush_arguments::{Invocation, read_arguments};
 use crush_files::script_on_file;
-use crush_memory::script_in_memory;
 use crush_server::{ServerFault, TcpClients, Waiting, serve_on_file};
 use sqlite_disk::{Disk, Unknown};
 use std::alloc::AllocError;

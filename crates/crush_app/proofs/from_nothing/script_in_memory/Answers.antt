@@ -1,8 +1,8 @@
 -- The store in memory is honest and has no tenant at first, so each premise of `script_run` holds.
 use Rattle.std.proofs.Common.{◌≡◌, ◌∙◌, None, subst, sym}
 use Rattle.std.specs.BTreeMap.{get_by_text}
-use Rattle.crush_memory.proofs.FromNothing.{ends_from_nothing}
-use Rattle.crush_memory.proofs.from_nothing.script_in_memory.Goals as goal
+use Rattle.crush_app.proofs.FromNothing.{ends_from_nothing}
+use Rattle.crush_app.proofs.from_nothing.script_in_memory.Goals as goal
 
 pub returns : goal.returns
 returns g c =

@@ -2,9 +2,9 @@
 
 ghost use Rattle.std.specs.Prelude.{⊤};
 ghost use Rattle.crush_app.specs.End.{EndsScript};
-ghost use Rattle.crush_memory.specs.FromNothing.{PlaysScriptFromNothing};
+ghost use Rattle.crush_app.specs.FromNothing.{PlaysScriptFromNothing};
 
-use crush_app::{ScriptEnd, script_run};
+use crate::{ScriptEnd, script_run};
 use std::alloc::{AllocError, Global};
 use std::io::{Read, Write};
 use std::num::NonZeroUsize;

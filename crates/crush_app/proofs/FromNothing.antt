@@ -7,7 +7,7 @@ use Rattle.tenant_core.specs.States.{States, Headline, MeetsDefinition, Outcomes
 use Rattle.tenant_messages.specs.declared.call.Call.{Call}
 use Rattle.tenant_messages.specs.declared.reply.Reply.{Reply}
 use Rattle.crush_app.specs.End.{EndsScript, LatchesAs}
-use Rattle.crush_memory.specs.FromNothing.{HeadlineFromNothing, MeetsFromNothing, PlaysFromNothing, PlaysScriptFromNothing, PlaysToFromNothing, PlaysUpToFromNothing, WritesHeadlineFromNothing}
+use Rattle.crush_app.specs.FromNothing.{HeadlineFromNothing, MeetsFromNothing, PlaysFromNothing, PlaysScriptFromNothing, PlaysToFromNothing, PlaysUpToFromNothing, WritesHeadlineFromNothing}
 use Rattle.crush_app.specs.Play.{Plays, PlaysScript, PlaysTo, PlaysUpTo, WritesHeadline}
 use Rattle.crush_app.specs.declared.play.ScriptEnd.{ScriptEnd}
 use Rattle.crush_app.specs.declared.play.ScriptEnd.TheVariants.{Done, Latched, TooLong, ReadFault, WriteFault}
