@@ -1,3 +1,11 @@
 pub mod Standing
 pub mod Walking
 pub mod Unfolding
+pub mod Lists
+pub mod Answered
+pub mod Doubtful
+pub mod Kept
+pub mod Counted
+pub mod Anew
+pub mod Showing
+pub mod Updated

@@ -1,2 +1,4 @@
 pub mod MapTree
 pub mod Walk
+pub mod Sessions
+pub mod Sizes

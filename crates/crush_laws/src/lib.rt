@@ -1,6 +1,11 @@
 //! Laws of the definitions of CRUSH. No crate of the program stands on them: they say again, in
 //! another form, what definitions below say.
 #![tactic(auto)]
+pub mod sessions;
+pub mod sizes;
+pub mod stops;
+pub mod updates;
+pub mod written;
 
 ghost use Rattle.std.specs.Prelude.{◌≡◌, ◌<◌, ◌+◌, ℕ, length, true};
 ghost use Rattle.crush_types.specs.declared.ItemId.{ItemId};

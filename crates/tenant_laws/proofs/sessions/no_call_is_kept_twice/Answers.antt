@@ -1,5 +1,0 @@
-use Rattle.tenant_laws.proofs.Kept.{kept_once}
-use Rattle.tenant_laws.proofs.sessions.no_call_is_kept_twice.Goals as goal
-
-pub returns : goal.returns
-returns c = kept_once
