@@ -9,3 +9,5 @@ pub mod Counted
 pub mod Anew
 pub mod Showing
 pub mod Updated
+pub mod Apart
+pub mod Found

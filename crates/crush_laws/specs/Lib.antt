@@ -2,3 +2,4 @@ pub mod MapTree
 pub mod Walk
 pub mod Sessions
 pub mod Sizes
+pub mod Served

@@ -6,6 +6,8 @@ pub mod sizes;
 pub mod stops;
 pub mod updates;
 pub mod written;
+pub mod clients;
+pub mod files;
 
 ghost use Rattle.std.specs.Prelude.{◌≡◌, ◌<◌, ◌+◌, ℕ, length, true};
 ghost use Rattle.crush_types.specs.declared.ItemId.{ItemId};

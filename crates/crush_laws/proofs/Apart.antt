@@ -6,7 +6,7 @@ use Rattle.crush_http.specs.Messages.{calls_of}
 use Rattle.crush_http.specs.Serving.{ServesInput}
 use Rattle.crush_http.specs.declared.connection.Ended.{Ended}
 use Rattle.crush_server.specs.Clients.{Clients, ServesClients, ServesEach, all_sent}
-use Rattle.server_laws.specs.Served.{AreJust, Client, IsServed}
+use Rattle.crush_laws.specs.Served.{AreJust, Client, IsServed}
 use Rattle.tenant_messages.specs.declared.call.Call.{Call}
 use Rattle.tenant_messages.specs.declared.reply.Reply.{Reply}
 

@@ -1,6 +1,6 @@
 use Rattle.sqlite.specs.Files.{file_state, image_of}
-use Rattle.server_laws.proofs.Found.{found_again}
-use Rattle.server_laws.proofs.files.what_was_copied_is_found_again.Goals as goal
+use Rattle.crush_laws.proofs.Found.{found_again}
+use Rattle.crush_laws.proofs.files.what_was_copied_is_found_again.Goals as goal
 
 pub returns-clause-now : goal.returns-clause-now
 returns-clause-now g c = λ last next files clean given found.

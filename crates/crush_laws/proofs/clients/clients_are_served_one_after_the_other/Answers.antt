@@ -1,7 +1,7 @@
 use Rattle.std.proofs.Common.{refl}
-use Rattle.server_laws.proofs.Apart.{apart, calls_in, replies_in, together, known_of_more}
-use Rattle.server_laws.proofs.clients.clients_are_served_one_after_the_other.Goals as goal
-use Rattle.server_laws.specs.Served.{AreJust}
+use Rattle.crush_laws.proofs.Apart.{apart, calls_in, replies_in, together, known_of_more}
+use Rattle.crush_laws.proofs.clients.clients_are_served_one_after_the_other.Goals as goal
+use Rattle.crush_laws.specs.Served.{AreJust}
 
 pub returns-clause-apart : goal.returns-clause-apart
 returns-clause-apart c = λ calls replies inputs outputs serves.

@@ -3,7 +3,7 @@
 ghost use Rattle.std.specs.Prelude.{◌≡◌, ◌+◌, ℕ, List, length, map, take, drop, flat_map, Some};
 ghost use Rattle.std.specs.List.{All};
 ghost use Rattle.crush_server.specs.Clients.{Clients, ServesClients, ServesEach, all_sent};
-ghost use Rattle.server_laws.specs.Served.{AreJust, Client, IsServed};
+ghost use Rattle.crush_laws.specs.Served.{AreJust, Client, IsServed};
 ghost use Rattle.tenant_messages.specs.declared.call.Call.{Call};
 ghost use Rattle.tenant_messages.specs.declared.reply.Reply.{Reply};
 
