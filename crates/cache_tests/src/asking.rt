@@ -11,9 +11,12 @@ ghost use Rattle.crush_pool.specs.States.{flags_of, reweights};
 use crate::same::assert_same;
 use crush_bucket::Tables;
 use crush_cache::PlacementCache;
-use crush_pool::{Content, DeviceState, DeviceStates, Exceptions, Pair, Placement, Placer, Pool, PoolFault, PoolParts, SharedExceptions, SharedStates, SharedText, reweights_of};
-use crush_map::{CrushMap, ItemId, Text};
 use crush_choose::{Slot, Weights};
+use crush_map::{CrushMap, ItemId, Text};
+use crush_pool::{
+    Content, DeviceState, DeviceStates, Exceptions, Pair, Placement, Placer, Pool, PoolFault,
+    PoolParts, SharedExceptions, SharedStates, SharedText, reweights_of,
+};
 use crush_text::write_map;
 use std::alloc::{AllocError, Global};
 use std::num::NonZeroUsize;

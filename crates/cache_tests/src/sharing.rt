@@ -2,9 +2,9 @@
 
 use crate::asking::{Answer, Asked, FIRST, How, LONG, ask, assert_placed, cache_for, is_one};
 use crate::same::assert_same;
+use crush_choose::Slot;
 use crush_map::ItemId;
 use crush_pool::{Pair, PoolFault};
-use crush_choose::Slot;
 use std::process::Abort;
 
 /// What is asked after the placement that is kept: how, and of which group.

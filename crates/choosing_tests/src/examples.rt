@@ -3,8 +3,8 @@
 use crate::drafts::{JEWEL, ONE, SOUND, Short, ShortBucket, choose, draft};
 use crate::rules::{LEGACY, TAKE, ask};
 use Kind::{List, Uniform};
-use crush_map::{ItemId, Kind, Step, Tunables};
 use crush_choose::Slot;
+use crush_map::{ItemId, Kind, Step, Tunables};
 use std::test::Fail;
 
 /// A rule on a map of seven devices, and what it answers for each of the inputs below `inputs`.

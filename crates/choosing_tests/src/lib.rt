@@ -1,5 +1,4 @@
-//! Tests of `crush_select` and `crush_choose`, on maps of drafts. They stand apart, so that the two
-//! crates are proved once.
+//! Tests of `crush_choose`, on maps of drafts. They stand apart, so that the crate is proved once.
 #![tactic(auto)]
 
 #[cfg(test)]

@@ -8,9 +8,9 @@ use crate::drafts::{JEWEL, ONE, SOUND, Short, bucket, choose, draft, generated, 
 use crate::same::{assert_same, assert_same_at};
 use Kind::{List, Straw2, Tree, Uniform};
 use crush_bucket::{Scratch, Tables};
+use crush_choose::limits::SIZE_LIMIT;
 use crush_choose::{Out, Slot, Weights, is_in, laws, run_rule};
 use crush_map::{Bucket, CrushMap, ItemId, Kind, Listed, MapDraft, Rule, Step, Tunables};
-use crush_choose::select_limits::SIZE_LIMIT;
 use std::alloc::{AllocError, Global};
 use std::process::Abort;
 use std::test::Fail;

@@ -1,7 +1,9 @@
-//! Scripts of requests to the service of all tenants, and checks of map texts.
+//! Scripts of requests to the service of all tenants, over any store and in memory, and checks of
+//! map texts.
 #![tactic(auto)]
 
 mod check;
+mod from_nothing;
 mod input;
 pub mod limits;
 mod line;
@@ -9,9 +11,8 @@ mod on_store;
 mod play;
 mod script;
 mod wire;
-mod from_nothing;
 
 pub use check::{CheckEnd, check_run};
+pub use from_nothing::script_in_memory;
 pub use on_store::script_on_store;
 pub use play::{ScriptEnd, script_run};
-pub use from_nothing::script_in_memory;

@@ -1,7 +1,7 @@
 //! The size that a mapping asks for.
 
 ghost use Rattle.std.specs.Prelude.{◌≤◌};
-ghost use Rattle.crush_choose.specs.declared.select_limits.TheConstants.{SIZE_LIMIT};
+ghost use Rattle.crush_choose.specs.declared.limits.TheConstants.{SIZE_LIMIT};
 
 /// How many slots an answer has at most.
 #[derive(Clone, Copy)]

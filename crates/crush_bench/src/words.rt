@@ -5,9 +5,9 @@ ghost use Rattle.crush_bench.specs.Words.{IsInRange};
 
 use crate::bucket::Questions;
 use crate::size::Size;
+use crush_choose::limits::SIZE_LIMIT;
 use crush_map::Kind;
 use crush_map::limits::{ITEM_LIMIT, TRIES_LIMIT};
-use crush_choose::select_limits::SIZE_LIMIT;
 use std::alloc::{AllocError, Global};
 
 /// What to measure.

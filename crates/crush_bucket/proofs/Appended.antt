@@ -7,7 +7,7 @@ use Rattle.crush_types.specs.declared.ItemId.{ItemId}
 use Rattle.crush_types.specs.declared.Kind.{Kind}
 use Rattle.crush_bucket.specs.Bucket.{WeightedItem, BucketView, word, no_item, item_at, total_weight, weight_within}
 use Rattle.crush_bucket.specs.Kinds.{takes, greatest, list_pick}
-use Rattle.crush_bucket.specs.KindsLaws.{IsGreatest, NonePasses}
+use Rattle.crush_bucket.specs.Laws.{IsGreatest, NonePasses}
 use Rattle.crush_bucket.specs.Pick.{pick, pick_as}
 use Rattle.crush_bucket.specs.Appended.{IsList, with_last}
 use Rattle.crush_bucket.proofs.Greatest.{greatest_is}

@@ -1,7 +1,7 @@
 -- The greatest number that passes.
 use Rattle.std.proofs.Common.{◌≡◌, ℕ, zero, suc, ◌+◌, ◌<◌, Bool, true, false, Option, Some, None, unwrap_or, ◌≤◌, MatchOption, IfSome, refl, arith, ◌⊎◌, inl, inr}
 use Rattle.crush_bucket.specs.Kinds.{greatest}
-use Rattle.crush_bucket.specs.KindsLaws.{IsGreatest, NonePasses}
+use Rattle.crush_bucket.specs.Laws.{IsGreatest, NonePasses}
 
 -- where n doesn't pass, what is so below n is so below n + 1
 one_more : (p : ℕ → Bool) (n : ℕ) (found : Option ℕ) → p n ≡ false → MatchOption found (NonePasses p n) (IsGreatest p n) → MatchOption found (NonePasses p (suc n)) (IsGreatest p (suc n))

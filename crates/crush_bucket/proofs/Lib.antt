@@ -13,7 +13,6 @@ pub mod Lanes
 pub mod Nodes
 pub mod Offers
 pub mod Pickable
-pub mod KindsPicking
 pub mod Quotients
 pub mod Ways
 pub mod Weighed

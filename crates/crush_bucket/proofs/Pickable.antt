@@ -12,7 +12,7 @@ use Rattle.crush_bucket.specs.Bucket.{BucketView, WeightedItem, no_item, item_at
 use Rattle.crush_bucket.specs.Kinds.{list_pick, tree_pick, straw2_pick}
 use Rattle.crush_bucket.specs.Pick.{pick, pick_as}
 use Rattle.crush_bucket.specs.Pickable.{weighs, pickable_as, pickable, IsWeighed}
-use Rattle.crush_bucket.proofs.KindsPicking.{HasPlaces, pick_item}
+use Rattle.crush_bucket.proofs.Picking.{HasPlaces, pick_item}
 use Rattle.crush_bucket.proofs.Weighed.{inside, list_weighed, list_first, tree_weighed, tree_last, straw2_weighed, straw2_first}
 
 kept : (items : List WeightedItem) (place : ℕ) → place < length items → 0 < weight_at items place → IsItemOf (filter weighs items) (item_at items place)

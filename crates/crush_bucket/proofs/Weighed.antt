@@ -10,7 +10,7 @@ use Rattle.crush_hash.specs.Hash.{hash4}
 use Rattle.crush_types.specs.declared.ItemId.{ItemId}
 use Rattle.crush_bucket.specs.Bucket.{WeightedItem, word, at, item_at, weight_at, weight_within, total_weight}
 use Rattle.crush_bucket.specs.Kinds.{takes, greatest, list_place, list_pick, label, tree_draw, height_of, place_within, tree_pick, straw2_place, straw2_pick}
-use Rattle.crush_bucket.specs.KindsLaws.{IsGreatest, NonePasses}
+use Rattle.crush_bucket.specs.Laws.{IsGreatest, NonePasses}
 use Rattle.crush_bucket.specs.Pickable.{weighs, IsWeighed}
 use Rattle.crush_bucket.proofs.Arrivals.{arrives, never_arrives}
 use Rattle.crush_bucket.proofs.Changes.{at_place}

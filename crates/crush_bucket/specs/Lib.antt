@@ -6,7 +6,6 @@ pub mod Appended
 pub mod Bucket
 pub mod Eight
 pub mod Kinds
-pub mod KindsLaws
 pub mod Pick
 pub mod Pickable
 pub mod Straw2Laws

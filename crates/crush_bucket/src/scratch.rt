@@ -4,11 +4,11 @@ ghost use Rattle.std.specs.Prelude.{◌≡◌, ◌<◌, IfOk, IfSome, length, sl
 ghost use Rattle.crush_bucket.specs.Private.Ahead.{HasPick};
 ghost use Rattle.crush_bucket.specs.declared.scratch.Step.{Step};
 
+use crate::AnyBucket;
 use crate::number::BucketNo;
 use crate::tables::Tables;
-use crate::AnyBucket;
-use crush_map::ItemId;
 use crush_hash::Perms;
+use crush_map::ItemId;
 use std::alloc::{AllocError, Global};
 use std::marker::Model;
 

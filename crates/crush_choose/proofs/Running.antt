@@ -10,7 +10,7 @@ use Rattle.crush_map.specs.Faults.{Known, ◌when◌, or_else, first_of, has_num
 use Rattle.crush_choose.specs.Rules.{reps}
 use Rattle.crush_choose.specs.Private.Runs.{IsChoose, IsStep, no_step}
 use Rattle.crush_map.specs.declared.limits.TheConstants.{TRIES_LIMIT, COUNT_LIMIT, VARY_R_LIMIT, STEP_LIMIT}
-use Rattle.crush_choose.specs.declared.select_limits.TheConstants.{SIZE_LIMIT}
+use Rattle.crush_choose.specs.declared.limits.TheConstants.{SIZE_LIMIT}
 
 passes_first : (a b : Option FaultCode) → or_else a b ≡ None → a ≡ None
 passes_first None b h = refl

@@ -8,7 +8,7 @@ ghost use Rattle.crush_choose.specs.Marks.{Marks, items_of, leaves_of};
 ghost use Rattle.crush_choose.specs.Private.Decisions.{IsDecision, mark_in};
 ghost use Rattle.crush_choose.specs.Private.Reachable.{firstn_can_place};
 ghost use Rattle.crush_map.specs.declared.limits.TheConstants.{BUCKET_LIMIT, TRIES_LIMIT, COUNT_LIMIT};
-ghost use Rattle.crush_choose.specs.declared.select_limits.TheConstants.{SIZE_LIMIT};
+ghost use Rattle.crush_choose.specs.declared.limits.TheConstants.{SIZE_LIMIT};
 
 use crate::effort::Effort;
 use crate::mark::{Mark, Spot};
@@ -16,8 +16,8 @@ use crate::reachable::{can_choose, can_have_leaf};
 use crate::row::{Row, Slot};
 use crate::walk::{Reached, Walk, reach_by};
 use crate::weights::{Weights, is_device_in};
+use crush_bucket::laws::a_pick_is_pickable;
 use crush_bucket::{BucketNo, Scratch, Tables};
-use crush_bucket::kinds_laws::a_pick_is_pickable;
 use crush_map::ItemId;
 
 /// The parameters of a call of `choose_firstn`.

@@ -11,14 +11,14 @@ ghost use Rattle.crush_choose.specs.Private.Reachable.{indep_can_place};
 ghost use Rattle.crush_map.specs.declared.limits.TheConstants.{BUCKET_LIMIT, TRIES_LIMIT};
 
 use crate::effort::Effort;
-use crate::select_limits::SIZE_LIMIT;
+use crate::limits::SIZE_LIMIT;
 use crate::mark::{Mark, Spot};
 use crate::reachable::{can_choose, can_have_leaf};
 use crate::row::{Row, Slot};
 use crate::walk::{Attempts, Reached, Walk, reach};
 use crate::weights::{Weights, is_device_in};
+use crush_bucket::laws::a_pick_is_pickable;
 use crush_bucket::{BucketNo, Scratch, Tables};
-use crush_bucket::kinds_laws::a_pick_is_pickable;
 use crush_map::ItemId;
 
 /// The parameters of a call of `choose_indep`.

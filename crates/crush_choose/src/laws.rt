@@ -1,18 +1,25 @@
-//! Laws of rules and of their traces. A call does nothing; its contract is the law.
+//! Laws of walks, answers, rules and traces. A call does nothing; its contract is the law.
 
-ghost use Rattle.std.specs.Prelude.{◌≡◌, ◌↔◌, ℕ, ℤ, List, All, Contains, map, slice_get, Some, true, false};
+ghost use Rattle.std.specs.Prelude.{◌≡◌, ◌↔◌, ℕ, ℤ, List, All, Contains, map, slice_get, Some, true, false, ◌<◌, length, Option, None};
 ghost use Rattle.crush_map.specs.declared.draft.Rule.{Rule};
 ghost use Rattle.crush_map.specs.declared.draft.Step.{Step};
 ghost use Rattle.crush_map.specs.declared.draft.Step.TheVariants.{Choose};
 ghost use Rattle.crush_map.specs.declared.draft.Tunables.{Tunables};
 ghost use Rattle.crush_map.specs.Map.{Map, IsMap};
-ghost use Rattle.crush_bucket.specs.Laws.{HasNoDeviceBucket};
+ghost use Rattle.crush_bucket.specs.Laws.{HasNoDeviceBucket, PicksBelow};
 ghost use Rattle.crush_bucket.specs.Tables.{TablesView, tables_of};
 ghost use Rattle.crush_choose.specs.declared.firstn.FirstnCall.{FirstnCall};
-ghost use Rattle.crush_choose.specs.Marks.{Slot};
-ghost use Rattle.crush_choose.specs.Firstn.{firstn};
+ghost use Rattle.crush_choose.specs.Marks.{Slot, Marks};
+ghost use Rattle.crush_choose.specs.Firstn.{firstn, IsFirstnAnswer};
 ghost use Rattle.crush_choose.specs.Trace.{rule_trace};
 ghost use Rattle.crush_choose.specs.Rules.{CanRun, IsTrace, Running, Settings, choose_call, step_out, after_step};
+ghost use Rattle.crush_choose.specs.declared.indep.IndepCall.{IndepCall};
+ghost use Rattle.crush_choose.specs.declared.mark.Mark.{Mark};
+ghost use Rattle.crush_choose.specs.Least.{least};
+ghost use Rattle.crush_choose.specs.Reach.{reach, reach_below};
+ghost use Rattle.crush_choose.specs.Indep.{IsIndepAnswer, indep};
+ghost use Rattle.crush_choose.specs.Laws.{reach_after_pick};
+ghost use Rattle.crush_choose.specs.Entries.{Entry, AreEntries, AreFirstnEntries, entries};
 
 use crush_bucket::laws::{buckets_of_a_map_pick_below, no_bucket_of_a_map_has_type_0};
 use crush_map::buckets_are_sound;
@@ -45,3 +52,55 @@ pub fn traces_are_of_the_map()
     buckets_of_a_map_pick_below();
     buckets_are_sound();
 }
+
+/// The value of `least` is that of a try below the bound before which no try has one; where `least`
+/// has none, no try below the bound has one.
+pub fn least_is_first()
+    ensures some { (tries : ℕ → Option Mark) (n : ℕ) (a : Mark) → least tries n ≡ Some a → (i : ℕ) × (i < n) × (tries i ≡ Some a) × ((j : ℕ) → j < i → tries j ≡ None) }
+    ensures none { (tries : ℕ → Option Mark) (n : ℕ) → least tries n ≡ None → (j : ℕ) → j < n → tries j ≡ None }
+{}
+
+/// A walk is one pick followed by the walk from the picked item; it ends after at most as many
+/// picks as its bucket's number and one more.
+pub fn walk_goes_on()
+    ensures step { (t : TablesView) (x : ℕ) (rr : ℕ → ℕ) (wanted bucket : ℕ) → PicksBelow t → bucket < length t.buckets → reach t x rr wanted bucket ≡ reach_after_pick t x rr wanted bucket }
+    ensures enough { (t : TablesView) (x : ℕ) (rr : ℕ → ℕ) (wanted bucket n : ℕ) → PicksBelow t → bucket < length t.buckets → bucket < n → reach_below t x rr wanted n bucket ≡ reach t x rr wanted bucket }
+{}
+
+/// The law `walk_goes_on` on the tables of every map.
+pub fn walk_on_a_map_goes_on()
+    ensures step { (m : Map) (x : ℕ) (rr : ℕ → ℕ) (wanted bucket : ℕ) → IsMap m → bucket < length m.buckets → reach (tables_of m) x rr wanted bucket ≡ reach_after_pick (tables_of m) x rr wanted bucket }
+    ensures enough { (m : Map) (x : ℕ) (rr : ℕ → ℕ) (wanted bucket n : ℕ) → IsMap m → bucket < length m.buckets → bucket < n → reach_below (tables_of m) x rr wanted n bucket ≡ reach (tables_of m) x rr wanted bucket }
+{
+    buckets_of_a_map_pick_below();
+}
+
+/// The entries of marks are what the marks place, in ascending order of rep.
+pub fn marks_are_entries()
+    ensures { (marks : Marks) → AreEntries marks (entries marks) }
+{}
+
+/// The entries of an answer's marks are an answer as entries, and each answer as entries is that of
+/// an answer's marks.
+pub fn entries_are_those_of_marks()
+    ensures entries { (t : TablesView) (w : List ℕ) (c : FirstnCall) (marks : Marks) → IsFirstnAnswer t w c marks → AreFirstnEntries t w c (entries marks) }
+    ensures marks { (t : TablesView) (w : List ℕ) (c : FirstnCall) (found : List Entry) → AreFirstnEntries t w c found → (marks : Marks) × IsFirstnAnswer t w c marks × (found ≡ entries marks) }
+{}
+
+/// A call of choose firstn has exactly one answer as entries.
+pub fn one_list_of_entries()
+    ensures there { (t : TablesView) (w : List ℕ) (c : FirstnCall) → AreFirstnEntries t w c (entries (firstn t w c)) }
+    ensures one { (t : TablesView) (w : List ℕ) (c : FirstnCall) (found : List Entry) → AreFirstnEntries t w c found → found ≡ entries (firstn t w c) }
+{}
+
+/// A call of choose firstn has exactly one answer as marks.
+pub fn one_firstn_answer()
+    ensures there { (t : TablesView) (w : List ℕ) (c : FirstnCall) → IsFirstnAnswer t w c (firstn t w c) }
+    ensures one { (t : TablesView) (w : List ℕ) (c : FirstnCall) (marks : Marks) → IsFirstnAnswer t w c marks → marks ≡ firstn t w c }
+{}
+
+/// A call of choose indep has exactly one answer.
+pub fn one_indep_answer()
+    ensures there { (t : TablesView) (w : List ℕ) (c : IndepCall) → IsIndepAnswer t w c (indep t w c) }
+    ensures one { (t : TablesView) (w : List ℕ) (c : IndepCall) (marks : Marks) → IsIndepAnswer t w c marks → marks ≡ indep t w c }
+{}

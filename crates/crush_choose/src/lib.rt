@@ -1,5 +1,5 @@
-//! Running the rules of a CRUSH map, and what lowered reweights leave as it was. What a rule's
-//! steps choose with is in `crush_select`, which this crate shows too.
+//! Running the rules of a CRUSH map: the items that their steps choose, and what lowered reweights
+//! leave as it was.
 //!
 //! Sources: Weil et al., 'CRUSH: Controlled, Scalable, Decentralized Placement of Replicated Data'
 //! (SC 2006), and `crush_do_rule` of Ceph's `src/crush/mapper.c`. A rule that runs allocates
@@ -7,27 +7,25 @@
 #![tactic(auto)]
 
 mod ahead;
-pub mod laws;
-pub mod limits;
-mod plan;
-mod rule;
-pub mod stability;
 mod effort;
 mod firstn;
 mod indep;
-pub mod select_laws;
-pub mod select_limits;
+pub mod laws;
+pub mod limits;
 mod mark;
+mod plan;
 mod reachable;
 mod row;
+mod rule;
+pub mod stability;
 mod walk;
 mod weights;
 
 pub use ahead::{can_look_ahead, look_ahead};
-pub use rule::{Out, run_rule, touches};
 pub use firstn::{FirstnCall, choose_firstn, has, slot_has};
 pub use indep::{IndepCall, choose_indep};
 pub use mark::{Mark, Spot};
 pub use row::{Row, Slot};
+pub use rule::{Out, run_rule, touches};
 pub use walk::Reached;
 pub use weights::{FULL, Weights, is_in};

@@ -4,10 +4,10 @@ ghost use Rattle.std.specs.Prelude.{◌≡◌, ◌<◌, ◌≤◌, ◌+◌, ◌+
 ghost use Rattle.crush_bucket.specs.Tables.{scratch_of};
 ghost use Rattle.crush_choose.specs.Rules.{put_out, slot_out, step_out};
 ghost use Rattle.crush_choose.specs.Private.Runs.{IsPlan, call_of};
-ghost use Rattle.crush_choose.specs.declared.select_limits.TheConstants.{SIZE_LIMIT};
+ghost use Rattle.crush_choose.specs.declared.limits.TheConstants.{SIZE_LIMIT};
 
-use crush_bucket::{BucketNo, Scratch, Tables};
 use crate::{FirstnCall, IndepCall, Row, Slot, Weights, choose_firstn, choose_indep};
+use crush_bucket::{BucketNo, Scratch, Tables};
 
 /// The parameters of a choose step, which are the same for each bucket of the working list.
 #[derive(Clone, Copy)]

@@ -2,7 +2,7 @@
 
 ghost use Rattle.std.specs.Prelude.{◌≡◌, ◌<◌, ◌≤◌, [], ◌∷◌, ◌++◌, length};
 
-use crate::select_limits::SIZE_LIMIT;
+use crate::limits::SIZE_LIMIT;
 use crush_map::ItemId;
 use std::marker::Model;
 
@@ -21,7 +21,7 @@ pub struct Row {
 impl Model for Row {
     ghost use Rattle.std.specs.Prelude.{◌≡◌, ◌≤◌, List, Option, length, take};
     ghost use Rattle.crush_types.specs.declared.ItemId.{ItemId};
-    ghost use Rattle.crush_choose.specs.declared.select_limits.TheConstants.{SIZE_LIMIT};
+    ghost use Rattle.crush_choose.specs.declared.limits.TheConstants.{SIZE_LIMIT};
 
     ghost Value = { List (Option ItemId) };
 

@@ -9,13 +9,13 @@ ghost use Rattle.crush_choose.specs.Rules.{CanRun, IsTrace, rule_answer, with_ch
 ghost use Rattle.crush_choose.specs.Stability.{AreLoweredOutside};
 ghost use Rattle.crush_choose.specs.Private.Runs.{AreSettings, IsPlan, IsRun, IsStep, call_of, no_step, settings_in, state_of};
 ghost use Rattle.crush_map.specs.declared.limits.TheConstants.{STEP_LIMIT};
-ghost use Rattle.crush_choose.specs.declared.select_limits.TheConstants.{SIZE_LIMIT};
+ghost use Rattle.crush_choose.specs.declared.limits.TheConstants.{SIZE_LIMIT};
 
 use crate::limits::TRACE_LIMIT;
 use crate::plan::{Plan, Rows, append};
+use crate::{Row, Slot, Weights};
 use crush_bucket::{Scratch, Tables};
 use crush_map::{ItemId, Rule, Step, Tunables};
-use crate::{Row, Slot, Weights};
 use std::alloc::{AllocError, Global};
 use std::marker::Model;
 

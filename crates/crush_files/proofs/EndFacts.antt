@@ -25,7 +25,7 @@ use Rattle.tenant_files.specs.declared.fault.FileFault.{FileFault}
 use Rattle.tenant_files.specs.declared.fault.FileFault.TheVariants.{Store}
 use Rattle.tenant_tables.specs.Rows.{StandsFor, StatesIn}
 use Rattle.tenant_store.specs.Shown.{HasState, IsHonest, MayLeave}
-use Rattle.tenant_store.specs.WatchedLaws.{works_below}
+use Rattle.tenant_store.specs.Laws.{works_below}
 use Rattle.crush_app.proofs.Ending.{ends_map, keeps_itself}
 use Rattle.crush_app.specs.End.{EndsScript, LatchesAs}
 use Rattle.crush_app.specs.Play.{PlaysScript}

@@ -14,8 +14,8 @@ use crate::error::ReadError;
 use crate::say::{
     alg_of, hash, integer, is, is_token, keyword, name, next, number, out_of_grammar,
 };
-use crush_map::{Kind, Listed, Weight, weight_from_text};
 use crate::{Cursor, Name};
+use crush_map::{Kind, Listed, Weight, weight_from_text};
 use std::alloc::Global;
 
 /// Reads the name of a bucket.

@@ -1,7 +1,7 @@
 //! Declarations as they are written, with names for numbers and numbers of any size.
 
-use crush_map::{Kind, Listed, Weight};
 use crate::Name;
+use crush_map::{Kind, Listed, Weight};
 
 /// The name of a tunable.
 #[derive(Clone, Copy, Debug, PartialEq, Eq)]

@@ -15,8 +15,8 @@ use crate::early::{declared_device, declared_tunable, declared_type};
 use crate::error::ReadError;
 use crate::rule::declared_rule;
 use crate::say::{is, out_of_grammar, type_of};
-use crush_map::Listed;
 use crate::{Cursor, Word};
+use crush_map::Listed;
 use std::alloc::{AllocError, Global};
 
 /// What a text declares up to its first fault of form, and that fault.

@@ -12,8 +12,8 @@ use crate::error::ReadError;
 use crate::say::{
     erasure, firstn, integer, is, keyword, name, next, number, out_of_grammar, rule_id, setting,
 };
-use crush_map::Listed;
 use crate::{Cursor, Name};
+use crush_map::Listed;
 use std::alloc::Global;
 
 /// Reads the name of a rule.

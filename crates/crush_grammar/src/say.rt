@@ -12,8 +12,8 @@ ghost use Rattle.crush_grammar.specs.Sayings as spec;
 use crate::code::{TextCode, TextFault};
 use crate::declaration::{Setting, TunableName};
 use crate::error::ReadError;
-use crush_map::{Kind, all_are_name_bytes, is_reserved};
 use crate::{Cursor, Name, Word, integer_from_text, number_from_text};
+use crush_map::{Kind, all_are_name_bytes, is_reserved};
 
 /// Returns the error of a word that is not of the grammar, or of the end of a text, on line `line`.
 pub(crate) fn out_of_grammar(line: usize) -> ReadError

@@ -5,8 +5,8 @@ ghost use Rattle.std.specs.Prelude.{◌≡◌, ℕ, ◌<◌, ◌+◌, ◌-◌, �
 ghost use Rattle.crush_hash.specs.Permutation.{no_id, permutation};
 ghost use Rattle.crush_hash.specs.Private.Eight.{place_before};
 
-use crate::reached::partner;
 use crate::hash3_each;
+use crate::reached::partner;
 use crush_types::ItemId;
 
 /// Returns where the contents of a place stood before place n changed contents with its partner, by

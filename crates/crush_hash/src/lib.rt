@@ -1,7 +1,8 @@
-//! rjenkins1, the hash of CRUSH, over words of 32 bits, and the hash of a name.
+//! rjenkins1, the hash of CRUSH, over words of 32 bits, the hash of a name, and permutations of a
+//! bucket's places by hashes.
 //!
-//! Sources: Ceph's `src/crush/hash.c` and `src/common/ceph_hash.cc`. The functions allocate
-//! nothing and can't fail.
+//! Sources: Ceph's `src/crush/hash.c`, `src/common/ceph_hash.cc` and `bucket_perm_choose` of
+//! `src/crush/mapper.c`. A hash allocates nothing and can't fail.
 #![tactic(auto)]
 
 ghost use Rattle.std.specs.Prelude.{◌≡◌, ◌<◌, ◌+◌, ◌^◌, length, slice_index};
@@ -206,22 +207,22 @@ pub fn name_hash(name: &[u8]) -> u32
     absorb(words, last_group(name, 12 * groups)).2
 }
 
-mod four_lanes;
-mod lanes;
-
-pub use four_lanes::{hash3_four, hash3_lanes, hash4_four};
-pub use lanes::{hash3_each, hash3_items, hash4_each, hash4_lanes};
-pub use eight::eight_members;
-pub use perm::Perm;
-pub use perms::Perms;
-
-#[cfg(test)]
-mod tests;
 mod early;
 mod eight;
+mod four_lanes;
+mod lanes;
 pub mod laws;
 mod pairs;
 mod perm;
 mod perms;
 mod place_hashes;
 mod reached;
+
+pub use eight::eight_members;
+pub use four_lanes::{hash3_four, hash3_lanes, hash4_four};
+pub use lanes::{hash3_each, hash3_items, hash4_each, hash4_lanes};
+pub use perm::Perm;
+pub use perms::Perms;
+
+#[cfg(test)]
+mod tests;

@@ -6,9 +6,9 @@ ghost use Rattle.crush_hash.specs.Private.Pairs.{Pair};
 ghost use Rattle.crush_hash.specs.Private.Reached.{IsReached, IsEmpty, IsKnown, remembered_by, swaps_of, len_by, room_of};
 
 use crate::early::early_member;
+use crate::hash3;
 use crate::pairs::{Pair, begin, exchange, member_at};
 use crate::place_hashes::PlaceHashes;
-use crate::hash3;
 use crush_types::ItemId;
 
 /// How far the permutation of a bucket's places is made for the input that was asked last. The

@@ -2,7 +2,7 @@
 
 ghost use Rattle.crush_http.specs.Laws.{OneReading, FaultReading};
 
-pub use tenant_service::history_laws::history;
+pub use tenant_service::laws::history;
 
 /// States that an input has one list of messages and one stop, unless it ends in bytes that are no
 /// head yet and that no further bytes can make a head: such an end may count as refused before that

@@ -1,7 +1,7 @@
 -- A walk down the tree of a map: the descent inside `crush_choose_firstn` and `crush_choose_indep`
 -- of Ceph's `mapper.c`.
 --
--- `reach` of `crush_select` walks from number to number and counts its picks. Here a walk is a
+-- `reach` of `crush_choose` walks from number to number and counts its picks. Here a walk is a
 -- recursion on the tree, which ends since the tree does.
 use Rattle.std.specs.Prelude.{ℕ, ◌==◌, ◌+◌, ◌*◌, ◌%◌, ◌&&◌, length, if◌then◌else◌}
 use Rattle.std.specs.Ordering.{int_eq}

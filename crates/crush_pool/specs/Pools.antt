@@ -3,7 +3,7 @@ use Rattle.std.specs.Prelude.{ℕ, ◌+◌, ◌%◌, ◌^◌, ◌&&◌, nat_le, 
 use Rattle.crush_hash.specs.Hash.{hash2, name_hash}
 use Rattle.crush_map.specs.Faults.{is_name}
 use Rattle.crush_map.specs.declared.limits.TheConstants.{RULE_ID_LIMIT}
-use Rattle.crush_choose.specs.declared.select_limits.TheConstants.{SIZE_LIMIT}
+use Rattle.crush_choose.specs.declared.limits.TheConstants.{SIZE_LIMIT}
 use Rattle.crush_pool.specs.Groups.{mask_of, stable_mod}
 use Rattle.crush_pool.specs.declared.limits.TheConstants.{GROUP_LIMIT, POOL_ID_LIMIT}
 use Rattle.crush_pool.specs.declared.pool.PoolParts.{PoolParts}

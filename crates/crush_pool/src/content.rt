@@ -4,11 +4,11 @@ ghost use Rattle.std.specs.Prelude.{◌≡◌};
 ghost use Rattle.crush_pool.specs.declared.pool.PoolParts.{PoolParts};
 ghost use Rattle.crush_pool.specs.Hashes.{joined_hash};
 
-use crate::content_exceptions::SharedExceptions;
-use crate::pools::{feed_pool, is_same_pool};
-use crate::content_states::SharedStates;
-use crate::text::SharedText;
 use crate::Pool;
+use crate::exceptions::SharedExceptions;
+use crate::pools::{feed_pool, is_same_pool};
+use crate::states::SharedStates;
+use crate::text::SharedText;
 use std::alloc::AllocError;
 use std::hash::{FoldHasher, Hash, Hasher};
 use std::marker::Model;

@@ -3,7 +3,7 @@
 ghost use Rattle.std.specs.Prelude.{◌≡◌};
 ghost use Rattle.crush_pool.specs.Groups as spec;
 
-use crush_bucket::kinds_laws::height_is_least;
+use crush_bucket::laws::height_is_least;
 
 /// Returns the mask for `b` groups: 2^k - 1 for the least k such that 2^k is at least `b` (Ceph's
 /// `pg_num_mask`).

@@ -20,9 +20,9 @@ ghost use Rattle.crush_pool.specs.Placements.{is_up_slot, placed, placement, pri
 ghost use Rattle.crush_pool.specs.Pools.{is_pool, seed_of};
 ghost use Rattle.crush_pool.specs.States.{flags_of, reweights};
 
+use crush_bucket::laws::height_is_least;
 use crush_choose::laws::traces_ascend;
 use crush_choose::stability::lowering_outside_the_trace_changes_nothing;
-use crush_bucket::kinds_laws::height_is_least;
 
 /// With the mask for b groups each number falls into one of them, and a number below b is its own
 /// group. Where b is a power of two the group is the remainder.

@@ -6,6 +6,7 @@
 #![tactic(auto)]
 
 mod changes;
+mod content;
 mod exceptions;
 mod group;
 pub mod laws;
@@ -13,21 +14,16 @@ pub mod limits;
 mod placer;
 mod placing;
 mod pool;
-mod states;
-mod content;
-mod content_exceptions;
 mod pools;
-mod content_states;
+mod states;
 mod text;
 
 pub use changes::{DeviceChange, are_valid_changes};
-pub use exceptions::{Exceptions, Pair, are_pairs};
+pub use content::{Content, LONG_TEXT};
+pub use exceptions::{Exceptions, Pair, SharedExceptions, are_pairs};
 pub use group::{mask_of, stable_mod};
 pub use placer::Placer;
 pub use placing::{Placement, is_up_slot, place, primary_of, rule_with_id};
 pub use pool::{Pool, PoolFault, PoolParts};
-pub use states::{DeviceState, DeviceStates, reweights_of};
-pub use content::{Content, LONG_TEXT};
-pub use content_exceptions::SharedExceptions;
-pub use content_states::SharedStates;
+pub use states::{DeviceState, DeviceStates, SharedStates, reweights_of};
 pub use text::SharedText;

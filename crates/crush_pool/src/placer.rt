@@ -65,7 +65,7 @@ impl<'a> Placer<'a> {
     ghost use Rattle.crush_bucket.specs.Tables.{scratch_of, tables_of};
     ghost use Rattle.crush_choose.specs.Rules.{IsTrace, rule_answer};
     ghost use Rattle.crush_choose.specs.Weights.{weights_of};
-    ghost use Rattle.crush_choose.specs.declared.select_limits.TheConstants.{SIZE_LIMIT};
+    ghost use Rattle.crush_choose.specs.declared.limits.TheConstants.{SIZE_LIMIT};
     ghost use Rattle.crush_pool.specs.Exceptions.{are_pairs, excepted};
     ghost use Rattle.crush_pool.specs.Placements.{placement, rule_numbered, up_of};
     ghost use Rattle.crush_pool.specs.Placers.{steps_of};

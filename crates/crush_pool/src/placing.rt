@@ -5,7 +5,7 @@ ghost use Rattle.crush_map.specs.Map.{IsMap, Map};
 ghost use Rattle.crush_bucket.specs.Tables.{scratch_of, tables_of};
 ghost use Rattle.crush_choose.specs.Rules.{CanRun, IsTrace, rule_answer};
 ghost use Rattle.crush_choose.specs.Weights.{weights_of};
-ghost use Rattle.crush_choose.specs.declared.select_limits.TheConstants.{SIZE_LIMIT};
+ghost use Rattle.crush_choose.specs.declared.limits.TheConstants.{SIZE_LIMIT};
 ghost use Rattle.crush_pool.specs.Exceptions.{are_pairs, excepted};
 ghost use Rattle.crush_pool.specs.States.{flags_of, reweights};
 ghost use Rattle.crush_pool.specs.Placements as spec;

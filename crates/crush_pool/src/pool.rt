@@ -7,10 +7,10 @@ ghost use Rattle.crush_pool.specs.Pools as spec;
 use crate::group::{mask_of, stable_mod};
 use crate::laws::numbers_fall_into_groups;
 use crate::limits::{GROUP_LIMIT, POOL_ID_LIMIT};
+use crush_choose::limits::SIZE_LIMIT;
 use crush_hash::{hash2, name_hash};
 use crush_map::limits::RULE_ID_LIMIT;
 use crush_map::{Text, is_name};
-use crush_choose::select_limits::SIZE_LIMIT;
 use std::marker::Model;
 
 /// Why there is no pool, no placement in it, or why pairs are no exceptions of it.

@@ -4,7 +4,7 @@ use Rattle.std.specs.List.{range_with_len, cons_option}
 use Rattle.crush_choose.specs.Marks.{Slot}
 use Rattle.crush_report.specs.Moves.{is_gain, gained, gained_in, move_rows, same_slots}
 use Rattle.crush_report.specs.declared.rows.MoveRow.{MoveRow}
-use Rattle.crush_choose.specs.declared.select_limits.TheConstants.{SIZE_LIMIT}
+use Rattle.crush_choose.specs.declared.limits.TheConstants.{SIZE_LIMIT}
 
 if_one_more : (b : Bool) (n most : ℕ) → n ≤ most → (if b then suc n else n) ≤ suc most
 if_one_more true n most le = omega (arith, le)

@@ -22,7 +22,7 @@ use Rattle.crush_report.specs.OnMaps.{answer_on, up_on, touched_on}
 use Rattle.crush_report.specs.Reports.{groups, impact, impact_by, moves, moves_by, up_list, usage, usage_by}
 use Rattle.crush_report.specs.Usage.{usage_rows}
 use Rattle.crush_report.proofs.Short.{answer_few as rule_few, up_short, size_few}
-use Rattle.crush_choose.specs.declared.select_limits.TheConstants.{SIZE_LIMIT}
+use Rattle.crush_choose.specs.declared.limits.TheConstants.{SIZE_LIMIT}
 
 -- ---- the up list of a group
 

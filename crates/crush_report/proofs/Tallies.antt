@@ -18,7 +18,7 @@ use Rattle.crush_report.specs.Private.Tallies.{count_at, HasRoom, TallyView, IsT
 use Rattle.crush_pool.specs.Exceptions.{device_item}
 use Rattle.crush_report.specs.Usage.{all_entries, entries_of, usage_row, usage_rows}
 use Rattle.crush_report.specs.declared.rows.UsageRow.{UsageRow}
-use Rattle.crush_choose.specs.declared.select_limits.TheConstants.{SIZE_LIMIT}
+use Rattle.crush_choose.specs.declared.limits.TheConstants.{SIZE_LIMIT}
 use Rattle.crush_pool.specs.declared.limits.TheConstants.{GROUP_LIMIT}
 
 -- the entries of n lists of at most SIZE_LIMIT slots

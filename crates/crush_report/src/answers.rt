@@ -7,8 +7,8 @@ ghost use Rattle.crush_map.specs.Faults.{has_number};
 ghost use Rattle.crush_report.specs.OnMaps.{trace_on};
 
 use crush_bucket::Scratch;
-use crush_choose::{Out, Slot};
 use crush_choose::laws::traces_ascend;
+use crush_choose::{Out, Slot};
 use crush_pool::laws::groups_have_the_seeds_of_their_places;
 use crush_pool::{Placer, PoolParts};
 use std::alloc::{AllocError, Global};

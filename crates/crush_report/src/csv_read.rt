@@ -6,11 +6,11 @@ ghost use Rattle.csv.specs.Records.{fields_of};
 ghost use Rattle.crush_pool.specs.declared.limits.TheConstants.{CHANGE_LIMIT};
 ghost use Rattle.crush_report.specs.DeviceCsv as spec;
 
+use crush_choose::FULL;
+use crush_grammar::number_from_text;
 use crush_map::limits::NUMBER_LIMIT;
 use crush_pool::limits::CHANGE_LIMIT;
 use crush_pool::{DeviceChange, are_valid_changes};
-use crush_choose::FULL;
-use crush_grammar::number_from_text;
 use csv::{ByteRecord, Error, ErrorKind, ReaderBuilder};
 use std::alloc::{AllocError, Global};
 

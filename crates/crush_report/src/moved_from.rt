@@ -2,7 +2,7 @@
 
 ghost use Rattle.std.specs.List.{range_with_len};
 ghost use Rattle.std.specs.Prelude.{◌≡◌, ◌≤◌, ◌*◌, Some, IfOk};
-ghost use Rattle.crush_choose.specs.declared.select_limits.TheConstants.{SIZE_LIMIT};
+ghost use Rattle.crush_choose.specs.declared.limits.TheConstants.{SIZE_LIMIT};
 ghost use Rattle.crush_pool.specs.Placers.{PoolOnMap};
 ghost use Rattle.crush_pool.specs.declared.limits.TheConstants.{GROUP_LIMIT};
 ghost use Rattle.crush_report.specs.Private.Parts.{list_at};
@@ -12,11 +12,11 @@ ghost use Rattle.crush_report.specs.OnMaps.{up_on};
 ghost use Rattle.crush_report.specs.Reports.{moves};
 
 use crate::up_lists::{UpLists, WORDS_KEPT};
-use crush_map::Listed;
-use crush_pool::Placer;
 use crate::{MoveRow, UpRun, move_between};
 use crush_choose::Slot;
-use crush_choose::select_limits::SIZE_LIMIT;
+use crush_choose::limits::SIZE_LIMIT;
+use crush_map::Listed;
+use crush_pool::Placer;
 use std::alloc::{AllocError, Global};
 
 /// Finds which of the first `count` groups of a pool have another up list than the one that is

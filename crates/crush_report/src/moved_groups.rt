@@ -2,7 +2,7 @@
 
 ghost use Rattle.std.specs.List.{range_with_len};
 ghost use Rattle.std.specs.Prelude.{◌≡◌, ◌<◌, ◌≤◌, ◌*◌, ◌^◌, Some, IfOk};
-ghost use Rattle.crush_choose.specs.declared.select_limits.TheConstants.{SIZE_LIMIT};
+ghost use Rattle.crush_choose.specs.declared.limits.TheConstants.{SIZE_LIMIT};
 ghost use Rattle.crush_pool.specs.declared.limits.TheConstants.{GROUP_LIMIT};
 ghost use Rattle.crush_report.specs.Moves as spec;
 ghost use Rattle.crush_report.specs.OnMaps.{up_on};
@@ -10,10 +10,10 @@ ghost use Rattle.crush_report.specs.Reports.{moves};
 
 use crate::rows::MoveRow;
 use crate::up_runs::UpRun;
+use crush_choose::limits::SIZE_LIMIT;
+use crush_choose::{Slot, has, slot_has};
 use crush_map::Listed;
 use crush_pool::Placer;
-use crush_choose::select_limits::SIZE_LIMIT;
-use crush_choose::{Slot, has, slot_has};
 use std::alloc::{AllocError, Global};
 
 /// Returns whether two slots have the same item, or both none.

@@ -12,9 +12,9 @@ use crate::rows::{MoveRow, UsageRow};
 use crate::touched_groups::impact_with;
 use crate::usage_counts::usage_with;
 use crush_bucket::Tables;
+use crush_choose::Weights;
 use crush_map::{CrushMap, Listed};
 use crush_pool::{DeviceState, DeviceStates, Exceptions, Placer, Pool, reweights_of};
-use crush_choose::Weights;
 use std::alloc::{AllocError, Global};
 
 /// Makes the table of the reweights of `states`. `Err(AllocError)`: an allocation failed.

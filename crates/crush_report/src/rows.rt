@@ -1,7 +1,7 @@
 //! The rows of reports.
 
-use crush_map::Listed;
 use crush_choose::Slot;
+use crush_map::Listed;
 
 /// How much of a pool lies on a device.
 #[derive(Clone, Copy, Debug, PartialEq, Eq)]

@@ -5,10 +5,10 @@ ghost use Rattle.std.specs.Prelude.{◌≡◌, ◌≤◌, [], IfOk, length, map,
 ghost use Rattle.crush_report.specs.OnMaps.{up_on};
 ghost use Rattle.crush_report.specs.Private.Parts.{AreEnds, parts_of, start_at};
 
-use crush_pool::{Placer, PoolParts};
 use crate::UpRun;
 use crush_choose::Slot;
-use crush_choose::select_limits::SIZE_LIMIT;
+use crush_choose::limits::SIZE_LIMIT;
+use crush_pool::{Placer, PoolParts};
 use std::alloc::{AllocError, Global};
 use std::marker::Model;
 

@@ -8,10 +8,10 @@ ghost use Rattle.crush_report.specs.Reports.{usage};
 use crate::counts::{count_if, count_slot, is_again};
 use crate::rows::UsageRow;
 use crate::up_runs::UpRun;
+use crush_choose::Slot;
+use crush_choose::limits::SIZE_LIMIT;
 use crush_map::{Device, Listed};
 use crush_pool::Placer;
-use crush_choose::Slot;
-use crush_choose::select_limits::SIZE_LIMIT;
 use std::alloc::{AllocError, Global};
 use std::marker::Model;
 
@@ -37,7 +37,7 @@ impl Tally {
     ghost use Rattle.std.specs.Prelude.{◌≡◌, ◌<◌, ◌≤◌, ◌+◌, ◌*◌, ◌^◌, ◌&&◌, ℕ, List, [], ◌∷◌, ◌++◌, if◌then◌else◌, IfOk, length};
     ghost use Rattle.crush_choose.specs.Marks.{Slot};
     ghost use Rattle.crush_choose.specs.Firstn.{slot_has};
-    ghost use Rattle.crush_choose.specs.declared.select_limits.TheConstants.{SIZE_LIMIT};
+    ghost use Rattle.crush_choose.specs.declared.limits.TheConstants.{SIZE_LIMIT};
     ghost use Rattle.crush_report.specs.Private.Tallies.{IsTally, HasRoom, HasSameLengths, count_at, row_by};
     ghost use Rattle.crush_pool.specs.Exceptions.{device_item};
 

@@ -26,7 +26,7 @@ use Rattle.tenant_messages.specs.declared.call.Call.{Call}
 use Rattle.tenant_messages.specs.declared.reply.Reply.{Reply}
 use Rattle.tenant_tables.specs.Rows.{StandsFor, StatesIn}
 use Rattle.tenant_store.specs.Shown.{HasState, IsHonest, MayLeave}
-use Rattle.tenant_store.specs.WatchedLaws.{works_below}
+use Rattle.tenant_store.specs.Laws.{works_below}
 use Rattle.crush_server.proofs.Each.{clients_map}
 use Rattle.crush_server.specs.Clients.{Clients}
 use Rattle.crush_server.specs.Ended.{EndsServing, LatchesAs, ServesOnFile, ServesOnFiles, has_failed}

@@ -1,5 +1,5 @@
-//! Tests of the lanes of `crush_hash`, of `crush_permutation` and of `crush_bucket`. They stand
-//! apart, so that the three crates are proved once.
+//! Tests of the lanes and permutations of `crush_hash`, and of `crush_bucket`. They stand apart, so
+//! that the two crates are proved once.
 #![tactic(auto)]
 
 #[cfg(test)]

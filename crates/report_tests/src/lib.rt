@@ -1,5 +1,5 @@
-//! Tests of `crush_report` and `report_cache`, on maps that are written as texts. They stand apart,
-//! so that the crates themselves are proved once.
+//! Tests of `crush_report`, on maps that are written as texts. They stand apart, so that the crate
+//! itself is proved once.
 #![tactic(auto)]
 
 #[cfg(test)]

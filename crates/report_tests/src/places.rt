@@ -4,9 +4,9 @@ use crate::cases::{CASES, Case, DEVICES, ELEVEN, PAIRS, POOLS, of_seven, of_six}
 use crate::plain::{all_placed, counted, gained, touches};
 use crate::rules::assert_rule;
 use crate::same::{assert_same, assert_same_at};
+use crush_choose::Slot;
 use crush_pool::{Pair, Placer};
 use crush_report::{MoveRow, UsageRow, impact, moves, usage};
-use crush_choose::Slot;
 use pool_tests::maps::MapTables;
 use pool_tests::placing::{Placed, PoolCase};
 use pool_tests::pools::Short;

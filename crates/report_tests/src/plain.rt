@@ -1,8 +1,8 @@
 //! The plain form of reports: over the placements of all groups of a pool, one by one.
 
+use crush_choose::{Slot, Weights};
 use crush_pool::{Pair, Placement, Placer};
 use crush_report::UsageRow;
-use crush_choose::{Slot, Weights};
 use pool_tests::placing::{Placed, place_group};
 use std::alloc::Global;
 use std::test::Fail;

@@ -5,7 +5,7 @@ pub mod Places
 mod Looking
 pub mod QueryFacts
 pub mod Asking
-pub mod ReadsColumns
+pub mod RowLengths
 pub mod Rising
 pub mod Listing
 pub mod Paging

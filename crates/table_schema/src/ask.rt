@@ -13,9 +13,9 @@ ghost use Rattle.table_schema.specs.Ready.{IsReady, Remains};
 ghost use Rattle.table_schema.specs.Asked.{IsSafe};
 
 use crate::fault::{ReadFault, read_fault};
+use crate::refuse::look_after;
 use sqlite::types::ValueRef;
 use sqlite::{Alter, Connection, Row};
-use crate::refuse::look_after;
 
 /// Runs the query `sql` with the values `params`, and returns the rows that it answers.
 ///

@@ -15,10 +15,10 @@ ghost use Rattle.table_schema.specs.Ready.{IsReady, Remains};
 use crate::ask::ask;
 use crate::fault::ReadFault;
 use crate::read::all_in;
+use crate::values::Exception;
 use sqlite::types::ValueRef;
 use sqlite::{Alter, Connection, Row};
 use std::alloc::Global;
-use crate::values::Exception;
 
 /// Reads the rows of exceptions of the tenant's pools, by pool and place.
 fn exception_rows<S: Alter>(conn: &mut Connection<S>, id: i64) -> Result<Vec<Row>, ReadFault>

@@ -2,9 +2,9 @@
 
 ghost use Rattle.std.specs.Prelude.{◌≡◌, ◌≢◌, ◌↔◌};
 
+use crate::refuse::Sight;
 use std::alloc::AllocError;
 use tenant_messages::StoreFault;
-use crate::refuse::Sight;
 
 /// Why a read did not answer.
 #[derive(Clone, Copy, Debug, PartialEq, Eq)]

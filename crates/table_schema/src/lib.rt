@@ -1,20 +1,20 @@
-//! The tables of tenants in SQLite: their schema, the values of their rows, and why a call fails.
+//! The tables of tenants in SQLite: their schema, the values of their rows, the reading of rows,
+//! and why a call fails.
 #![tactic(auto)]
 
-mod columns;
-pub mod first;
-mod one_test;
-mod parts;
-pub mod refuse;
-pub mod schema;
-mod tables;
-pub mod values;
 mod ask;
+mod columns;
 pub mod exceptions;
 pub mod fault;
 pub mod find;
+pub mod first;
 pub mod lists;
+mod one_test;
 pub mod pages;
+mod parts;
 mod read;
+pub mod refuse;
 pub mod rows;
-
+pub mod schema;
+mod tables;
+pub mod values;

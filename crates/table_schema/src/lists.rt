@@ -15,10 +15,10 @@ use crate::ask::ask;
 use crate::fault::ReadFault;
 use crate::read::{list_of, one_of};
 use crate::rows::{PoolRow, ReceiptRow, VersionRow};
+use crate::values::State;
 use sqlite::types::ValueRef;
 use sqlite::{Alter, Connection, Row};
 use std::alloc::Global;
-use crate::values::State;
 
 /// Reads the versions and the texts of the tenant's maps, by version.
 fn version_rows<S: Alter>(conn: &mut Connection<S>, id: i64) -> Result<Vec<Row>, ReadFault>

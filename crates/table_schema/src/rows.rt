@@ -5,9 +5,9 @@ ghost use Rattle.std.specs.declared.cmp.Ordering.TheVariants.{Less};
 ghost use Rattle.sqlite_value.specs.declared.value.Value.TheVariants.{Int, Text as Words};
 ghost use Rattle.sqlite_value.specs.Order.{Row as Values, column, value_cmp};
 
+use crate::values::{Exception, State};
 use sqlite::{Error, ErrorCode, Row};
 use std::alloc::AllocError;
-use crate::values::{Exception, State};
 
 /// A row of `maps`.
 #[derive(Drop)]

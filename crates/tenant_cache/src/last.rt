@@ -7,8 +7,8 @@ ghost use Rattle.crush_pool.specs.Placers.{PoolOnMap};
 
 use crate::bound::Bound;
 use crate::kept::Kept;
-use crush_pool::{Content, Placer};
 use crush_map::Listed;
+use crush_pool::{Content, Placer};
 use crush_report::{MoveRow, Touches, UpLists, moves_from};
 use crush_text::canonical_texts_are_read;
 use std::alloc::{AllocError, Global};
@@ -132,7 +132,7 @@ impl Last<Touches> {
 impl Last<UpLists> {
     ghost use Rattle.std.specs.Prelude.{◌≡◌, ◌≤◌, ◌*◌, Some, IfSome};
     ghost use Rattle.crush_pool.specs.Contents.{content_of};
-    ghost use Rattle.crush_choose.specs.declared.select_limits.TheConstants.{SIZE_LIMIT};
+    ghost use Rattle.crush_choose.specs.declared.limits.TheConstants.{SIZE_LIMIT};
     ghost use Rattle.crush_map.specs.Map.{IsMap};
     ghost use Rattle.crush_pool.specs.Placers.{PoolOnMap};
     ghost use Rattle.crush_pool.specs.declared.limits.TheConstants.{GROUP_LIMIT};

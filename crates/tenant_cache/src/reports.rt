@@ -3,7 +3,7 @@
 ghost use Rattle.std.specs.Prelude.{◌≡◌, ◌≤◌, ◌*◌, Some, IfSome};
 ghost use Rattle.crush_pool.specs.Contents.{content_of};
 ghost use Rattle.crush_map.specs.Map.{IsMap};
-ghost use Rattle.crush_choose.specs.declared.select_limits.TheConstants.{SIZE_LIMIT};
+ghost use Rattle.crush_choose.specs.declared.limits.TheConstants.{SIZE_LIMIT};
 ghost use Rattle.crush_pool.specs.declared.limits.TheConstants.{GROUP_LIMIT};
 ghost use Rattle.crush_report.specs.Moves.{gained_in};
 ghost use Rattle.crush_report.specs.Reports.{impact, moves};
@@ -12,8 +12,8 @@ ghost use Rattle.tenant_core.specs.Cached.{Asks, IsCachedFor};
 use crate::bound::Bound;
 use crate::kept::Kept;
 use crate::last::{Last, is_left, is_of_tenant, renew};
-use crush_pool::{Content, Placer};
 use crush_map::Listed;
+use crush_pool::{Content, Placer};
 use crush_report::{MoveRow, Touches, UpLists};
 use std::alloc::Global;
 use tenant_core::{Asked, Cached};

@@ -2,9 +2,9 @@
 
 use crate::asking::{Asked, assert_that};
 use crate::counted::{Over, cached};
+use crush_choose::Slot;
 use crush_map::ItemId;
 use crush_pool::Placement;
-use crush_choose::Slot;
 use std::alloc::Global;
 use std::process::Abort;
 use std::rc::Rc;

@@ -4,8 +4,8 @@ use crate::asking::POOL;
 use crate::history::{Step, assert_histories};
 use crate::placed::{EXCEPTED, IMPORT_OF_TWO, NOT_EXCEPTED};
 use crate::touched::OUT;
-use crush_map::ItemId;
 use crush_choose::Slot;
+use crush_map::ItemId;
 
 /// The body of an import of a map with two devices, of which the hash of a group chooses one.
 const IMPORT_OF_BOTH: &str =

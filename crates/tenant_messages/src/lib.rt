@@ -1,5 +1,5 @@
-//! Calls and replies: the parts of a call, the reading of JSON bodies, and replies as a status and
-//! compact JSON.
+//! Calls and replies: the parts of a call, the reading of JSON bodies, replies as a status and
+//! compact JSON, and why a store of tenants did not answer.
 #![tactic(auto)]
 
 mod call;

@@ -1,4 +1,5 @@
-//! Requests for reports on a pool, and changes of states of devices as CSV: a file for each.
+//! Requests for reports on a pool, picks of one bucket, and changes of states of devices as CSV: a
+//! file for each.
 //!
 //! The tests are in the crate `service_tests`.
 #![tactic(auto)]
@@ -6,11 +7,10 @@
 pub mod device_csv;
 pub mod impact;
 pub mod laws;
+pub mod limits;
 pub mod moves;
+pub mod picks;
 mod rows;
 pub mod usage;
-pub mod picks_laws;
-pub mod limits;
-pub mod picks;
 
 pub use picks::{AskedBucket, PickRequest};

@@ -1,7 +1,7 @@
 -- An import or a rule test is read from a body exactly where the body has its form.
 use Rattle.std.proofs.Common.{◌≡◌, ℕ, ◌+◌, ◌≤◌, List, [], ◌∷◌, ◌++◌, length, true, nat_le, Option, Some, None, refl, ◌∙◌, ap}
 use Rattle.std.specs.Prelude.{codes}
-use Rattle.crush_choose.specs.declared.select_limits.TheConstants.{SIZE_LIMIT}
+use Rattle.crush_choose.specs.declared.limits.TheConstants.{SIZE_LIMIT}
 use Rattle.crush_map.specs.declared.limits.TheConstants.{RULE_ID_LIMIT}
 use Rattle.tenant_messages.proofs.Finding.{Decides-leb, Finds, finds_as, finds_both, finds_natural, finds_number, finds_object, finds_object_with, finds_tested, finds_text, finds_under, is_there}
 use Rattle.tenant_messages.proofs.Objects.{are_different}

@@ -7,7 +7,7 @@ use Rattle.crush_choose.specs.Marks.{Slot}
 use Rattle.crush_choose.specs.Rules.{rule_answer}
 use Rattle.crush_choose.specs.Trace.{rule_trace}
 use Rattle.crush_choose.specs.Weights.{weights_of}
-use Rattle.crush_choose.specs.declared.select_limits.TheConstants.{SIZE_LIMIT}
+use Rattle.crush_choose.specs.declared.limits.TheConstants.{SIZE_LIMIT}
 use Rattle.crush_map.specs.Map.{Map}
 use Rattle.crush_map.specs.declared.limits.TheConstants.{RULE_ID_LIMIT}
 use Rattle.crush_map.specs.declared.draft.Rule.{Rule}

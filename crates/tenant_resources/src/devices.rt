@@ -13,10 +13,10 @@ ghost use Rattle.tenant_resources.specs.Devices as spec;
 ghost use Rattle.tenant_resources.specs.Orders.{accepted_of};
 
 use crate::accepted::Accepted;
+use crush_choose::FULL;
 use crush_map::limits::NUMBER_LIMIT;
 use crush_map::{Listed, Text};
 use crush_pool::{DeviceChange, DeviceState, are_valid_changes};
-use crush_choose::FULL;
 use serde_json::{Value, json};
 use std::alloc::{AllocError, Global};
 use tenant_messages::{

@@ -14,9 +14,9 @@ ghost use Rattle.tenant_resources.specs.Orders.{accepted_of};
 
 use crate::accepted::Accepted;
 use crate::devices::has_device;
-use crush_pool::{Exceptions, Pair, SharedExceptions, are_pairs};
 use crush_map::{Listed, Text};
 use crush_pool::limits::{GROUP_LIMIT, POOL_ID_LIMIT};
+use crush_pool::{Exceptions, Pair, SharedExceptions, are_pairs};
 use serde_json::{Value, json};
 use std::alloc::{AllocError, Global};
 use tenant_messages::{

@@ -11,11 +11,11 @@ ghost use Rattle.tenant_resources.specs.RuleTests as spec;
 
 use crush_bucket::Scratch;
 use crush_choose::laws::traces_ascend;
+use crush_choose::limits::SIZE_LIMIT;
 use crush_choose::{Out, Slot, Weights, run_rule};
 use crush_map::Rule;
 use crush_map::limits::RULE_ID_LIMIT;
 use crush_pool::rule_with_id;
-use crush_choose::select_limits::SIZE_LIMIT;
 use serde_json::{Value, json};
 use std::alloc::{AllocError, Global};
 use std::marker::Model;
@@ -35,7 +35,7 @@ pub struct RuleTest {
 
 impl Model for RuleTest {
     ghost use Rattle.std.specs.Prelude.{◌≤◌};
-    ghost use Rattle.crush_choose.specs.declared.select_limits.TheConstants.{SIZE_LIMIT};
+    ghost use Rattle.crush_choose.specs.declared.limits.TheConstants.{SIZE_LIMIT};
     ghost use Rattle.tenant_resources.specs.RuleTests.{RuleTest};
 
     ghost Value = { RuleTest };

@@ -7,7 +7,6 @@ mod memory_store;
 mod service;
 mod session;
 mod writing;
-pub mod history_laws;
 
 pub use memory_store::MemoryStore;
 pub use service::Service;

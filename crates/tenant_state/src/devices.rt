@@ -7,8 +7,8 @@ ghost use Rattle.tenant_state.specs.Ordered.{is_ascending, is_before_first};
 ghost use Rattle.tenant_state.specs.State.{is_lower_device, with_state};
 
 use crate::size::size_of_states;
-use crush_pool::{DeviceState, DeviceStates, SharedStates, reweights_of};
 use crush_choose::Weights;
+use crush_pool::{DeviceState, DeviceStates, SharedStates, reweights_of};
 use std::alloc::{AllocError, Global};
 use std::marker::Model;
 

@@ -5,8 +5,8 @@ ghost use Rattle.crush_writing.specs.Canonical.{canonical};
 
 use crate::size::size_of_version;
 use crush_bucket::Tables;
-use crush_pool::SharedText;
 use crush_map::CrushMap;
+use crush_pool::SharedText;
 use crush_text::{canonical_texts_are_ascii, read_stored, write_map, written_maps_are_read_back};
 use std::alloc::{AllocError, Global};
 use std::marker::Model;

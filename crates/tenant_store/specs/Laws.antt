@@ -1,6 +1,6 @@
--- Laws of tables as a store.
-use Rattle.std.specs.Prelude.{◌≡◌, ℕ, List, Bool, IsTrue}
-use Rattle.std.proofs.Common.{◌∙◌, sym, ap, subst}
+-- Laws of tables as a store, and of a store whose files are watched.
+use Rattle.std.specs.Prelude.{◌≡◌, ℕ, List, Bool, IsTrue, ◌||◌, true, false}
+use Rattle.std.proofs.Common.{◌∙◌, sym, ap, subst, refl}
 use Rattle.sqlite.specs.Effect.{Database}
 use Rattle.sqlite.specs.Held.{Held, state}
 use Rattle.sqlite.specs.Store.{Ghosts}
@@ -28,3 +28,8 @@ keeps_states old new same t s = (
 -- between calls what was committed shows what the tables have
 pub settled : (now committed : Database) (left : Trees) (t : List ℕ) (found : Found) → now ≡ committed → left ≡ committed.trees → Shows (StandsFor left) t found → Shows (StandsFor now.trees) t found
 settled now committed left t found same is shows = subst (λ (db : Trees). Shows (StandsFor db) t found) (is ∙ ap (λ (d : Database). d.trees) (sym same)) shows
+
+-- while a watched store isn't latched, the store below isn't
+pub works_below : (below missed : Bool) → (below || missed) ≡ false → below ≡ false
+works_below false missed works = refl
+works_below true missed works = works

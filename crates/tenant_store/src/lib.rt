@@ -1,13 +1,13 @@
-//! A store of tenants' states in the tables of a database.
+//! A store of tenants' states in the tables of a database, and a store whose files are watched.
 #![tactic(auto)]
 
 mod judged;
 pub mod laws;
 mod reading;
 mod store;
-mod writing;
 mod watch;
 mod watched_store;
+mod writing;
 
 pub use store::Store;
 pub use table_schema::rows::{PoolRow, ReceiptRow, VersionRow};

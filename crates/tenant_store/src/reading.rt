@@ -28,9 +28,9 @@ use std::rc::Rc;
 use table_schema::find::Tenant;
 use table_schema::rows::ReceiptRow;
 use tenant_core::StoreFault;
-use tenant_tables::{judge_receipts, read_inventory, receipt_from};
 use tenant_state::{Inventory, Receipt};
 use tenant_tables::tables::Tables;
+use tenant_tables::{judge_receipts, read_inventory, receipt_from};
 
 /// Judges the receipts of `tenant`, unless those of its name were judged, and remembers that they
 /// were. The tenant has `versions` versions.

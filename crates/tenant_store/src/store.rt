@@ -21,8 +21,8 @@ use std::collections::BTreeMap;
 use std::marker::Model;
 use std::rc::Rc;
 use tenant_core::{StoreFault, TenantStore};
-use tenant_tables::laws::names_stand_for_one_state;
 use tenant_state::{Change, Inventory, Receipt};
+use tenant_tables::laws::names_stand_for_one_state;
 use tenant_tables::tables::Tables;
 
 /// Tenants in the tables of a database. Contracts see the connection, and whether a call has failed

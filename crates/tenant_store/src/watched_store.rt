@@ -92,7 +92,7 @@ impl<T: TenantStore, W: Watch + Drop> WatchedStore<T, W> {
 
 impl<T: TenantStore, W: Watch> TenantStore for WatchedStore<T, W> {
     ghost use Rattle.std.specs.Prelude.{◌≡◌, ◌||◌, ℕ, List, false};
-    ghost use Rattle.tenant_store.specs.WatchedLaws.{works_below};
+    ghost use Rattle.tenant_store.specs.Laws.{works_below};
 
     ghost is_honest = { λ store. T.is_honest store.0.0 };
 

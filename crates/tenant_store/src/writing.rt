@@ -16,9 +16,9 @@ use crate::reading::{count_versions, tenant_of};
 use sqlite::Alter;
 use std::alloc::Global;
 use tenant_core::StoreFault;
-use tenant_tables::write_change;
 use tenant_state::{Change, Made};
 use tenant_tables::tables::Tables;
+use tenant_tables::write_change;
 
 /// Returns the number of versions after `change`, where there were `versions` before.
 fn versions_after(versions: u64, change: &Change) -> u64

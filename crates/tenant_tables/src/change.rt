@@ -18,17 +18,17 @@ ghost use Rattle.tenant_tables.specs.Rows as spec;
 ghost use Rattle.tenant_tables.specs.Changes.{IsChangeable, Turns};
 ghost use Rattle.tenant_tables.specs.Commits.{HasPoolsFor, numbers_of, rows_with_made, with_new_pairs};
 
+use crate::commit::Accepted;
+use crate::tables::Tables;
 use crush_map::Text;
 use crush_pool::{DeviceState, Exceptions, Pair, Pool};
 use sqlite::Alter;
 use std::alloc::{AllocError, Global};
-use tenant_messages::{StoreFault, SuccessStatus};
 use table_schema::find::Tenant;
 use table_schema::rows::PoolRow;
 use table_schema::values::{Exception, Pool as PoolValues, Receipt as ReceiptValues, State};
+use tenant_messages::{StoreFault, SuccessStatus};
 use tenant_state::{Change, Made, Receipt};
-use crate::commit::Accepted;
-use crate::tables::Tables;
 
 // ---- numbers
 

@@ -12,8 +12,8 @@ use crate::tables::Tables;
 use crate::write::Write;
 use sqlite::Alter;
 use std::alloc::{AllocError, Global};
-use tenant_messages::StoreFault;
 use table_schema::values::{Exception, Pool, Receipt, State};
+use tenant_messages::StoreFault;
 
 /// What each accepted change writes beside what it made: the number of its tenant, the tenant's new
 /// epoch, and the receipt.

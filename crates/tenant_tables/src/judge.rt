@@ -11,12 +11,12 @@ ghost use Rattle.tenant_tables.specs.Changes.{HasReceipts};
 ghost use Rattle.tenant_tables.specs.Pages.{AreReceipts, IsOfReceipt, IsTail, Leaves};
 
 use crate::parts::is_receipt_row;
+use crate::tables::Tables;
 use sqlite::Alter;
-use tenant_messages::StoreFault;
 use table_schema::find::Tenant;
 use table_schema::pages::PAGE;
 use table_schema::rows::ReceiptRow;
-use crate::tables::Tables;
+use tenant_messages::StoreFault;
 
 /// The receipts that are still to be judged: those whose request numbers are above `after`, of
 /// which there have to be `left`.

@@ -1,20 +1,20 @@
 //! The tables of tenants in SQLite as a value: opened, read and written, each change whole or not
-//! at all.
+//! at all; and tenants as their rows.
 #![tactic(auto)]
 
-pub mod commit;
-mod open;
-mod reopen;
-pub mod tables;
-mod write;
 mod change;
+pub mod commit;
 mod inventory;
 mod judge;
 pub mod laws;
+mod open;
 mod parts;
 mod pools;
 mod read;
+mod reopen;
 mod state;
+pub mod tables;
+mod write;
 
 pub use change::write_change;
 pub use inventory::inventory_from;

@@ -15,11 +15,11 @@ ghost use Rattle.tenant_tables.specs.Opened.{HasVersion, SaysVersion, IsKnown, I
 use crate::write::{Write, run_all};
 use sqlite::{Alter, Connection, Error, Row};
 use std::alloc::AllocError;
-use tenant_messages::StoreFault;
-use table_schema::rows::int_at;
 use table_schema::first::is_first;
 use table_schema::refuse::{fault_of, refusal};
+use table_schema::rows::int_at;
 use table_schema::schema::layout_of;
+use tenant_messages::StoreFault;
 
 /// Returns whether the database has no table, index or view.
 fn is_empty<S: Alter>(conn: &Connection<S>) -> bool

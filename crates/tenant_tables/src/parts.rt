@@ -14,10 +14,10 @@ ghost use Rattle.table_schema.specs.Found.{version_values, receipt_values};
 ghost use Rattle.tenant_tables.specs.Pages.{IsOfReceipt};
 ghost use Rattle.tenant_tables.specs.Rows as spec;
 
+use crush_choose::FULL;
 use crush_map::Text;
 use crush_map::limits::NUMBER_LIMIT;
 use crush_pool::DeviceState;
-use crush_choose::FULL;
 use std::alloc::{AllocError, Global};
 use std::rc::Rc;
 use table_schema::rows::{ReceiptRow, VersionRow};

@@ -15,8 +15,8 @@ ghost use Rattle.table_schema.specs.Found.{pool_values};
 ghost use Rattle.tenant_tables.specs.Rows as spec;
 
 use crate::parts::{flag, natural};
-use crush_pool::{Exceptions, Pair, Pool, PoolParts, SharedExceptions};
 use crush_map::Text;
+use crush_pool::{Exceptions, Pair, Pool, PoolParts, SharedExceptions};
 use std::alloc::{AllocError, Global};
 use std::rc::Rc;
 use table_schema::rows::PoolRow;

@@ -8,14 +8,14 @@ ghost use Rattle.tenant_tables.specs.Changes.{HasRows};
 ghost use Rattle.tenant_tables.specs.Lists.{IsOfState};
 
 use crate::inventory::inventory_from;
+use crate::tables::Tables;
 use crush_text::canonical_texts_are_ascii;
 use sqlite::Alter;
 use std::alloc::Global;
 use std::rc::Rc;
-use tenant_messages::StoreFault;
 use table_schema::find::Tenant;
+use tenant_messages::StoreFault;
 use tenant_state::Inventory;
-use crate::tables::Tables;
 
 /// Reads what the tenant with the number and the epoch has. No row is changed.
 ///

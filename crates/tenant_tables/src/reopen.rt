@@ -13,9 +13,9 @@ ghost use Rattle.table_schema.specs.Ready.{IsReady};
 use sqlite::{Alter, Connection};
 use sqlite_trees::store::Shape;
 use std::alloc::Global;
-use tenant_messages::StoreFault;
 use table_schema::refuse::fault_of;
 use table_schema::schema::{Layout, is_laid_out, layout_of};
+use tenant_messages::StoreFault;
 
 /// Returns whether the store isn't broken, and the trees of the tables in `layout` hold rows by
 /// rowid.

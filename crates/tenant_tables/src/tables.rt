@@ -20,7 +20,6 @@ use crate::write::{Write, write_all};
 use sqlite::{Alter, Connection};
 use std::alloc::Global;
 use std::marker::Model;
-use tenant_messages::StoreFault;
 use table_schema::exceptions::exceptions_of;
 use table_schema::fault::ReadFault;
 use table_schema::find::{Tenant, find};
@@ -28,6 +27,7 @@ use table_schema::lists::{devices_of, pools_of, receipt_of, versions_of};
 use table_schema::pages::{first_receipts, receipts_after};
 use table_schema::rows::{PoolRow, ReceiptRow, VersionRow};
 use table_schema::values::{Exception, State};
+use tenant_messages::StoreFault;
 
 /// The tables of a connection. Contracts see the connection, and whether a failure has latched the
 /// tables. After that no further call is made on them.

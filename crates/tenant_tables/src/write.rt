@@ -9,9 +9,9 @@ ghost use Rattle.table_schema.specs.Ready.{Keeps, Commits, IsReady, Refuses};
 
 use sqlite::types::ValueRef;
 use sqlite::{Alter, Connection, Error, Transaction};
-use tenant_messages::StoreFault;
 use table_schema::refuse::refusal;
 use table_schema::values::{Exception, Pool, Receipt, State};
+use tenant_messages::StoreFault;
 
 /// A statement that writes, with its values. `id` is the number of a tenant.
 #[derive(Clone, Copy)]

@@ -1,5 +1,5 @@
-//! Tests of `crush_words`, `crush_grammar` and `crush_text`, and texts of maps, which `pool_tests`
-//! uses too. They stand apart, so that the crates themselves are proved once.
+//! Tests of `crush_grammar` and `crush_text`, and texts of maps, which `pool_tests` uses too. They
+//! stand apart, so that the crates themselves are proved once.
 #![tactic(auto)]
 
 #[cfg(test)]

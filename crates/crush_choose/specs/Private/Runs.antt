@@ -7,8 +7,7 @@ use Rattle.crush_choose.specs.declared.rule.Settings as kept
 use Rattle.crush_choose.specs.declared.rule.Run.{Run}
 use Rattle.crush_choose.specs.Rules.{ChooseCall, Settings, Running, reps}
 use Rattle.crush_map.specs.declared.limits.TheConstants.{TRIES_LIMIT, COUNT_LIMIT, VARY_R_LIMIT}
-use Rattle.crush_choose.specs.declared.select_limits.TheConstants.{SIZE_LIMIT}
-use Rattle.crush_choose.specs.declared.limits.TheConstants.{TRACE_LIMIT}
+use Rattle.crush_choose.specs.declared.limits.TheConstants.{SIZE_LIMIT, TRACE_LIMIT}
 
 -- a plan in range
 pub record IsPlan (p : Plan) : Type 0 where

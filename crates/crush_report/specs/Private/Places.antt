@@ -2,7 +2,7 @@
 use Rattle.std.specs.Prelude.{◌≡◌, ◌<◌, ◌≤◌, ◌+◌, ℕ, List, false, length, slice_index_or, slice_range}
 use Rattle.crush_map.specs.Faults.{has_number}
 use Rattle.crush_choose.specs.Marks.{Slot}
-use Rattle.crush_choose.specs.declared.select_limits.TheConstants.{SIZE_LIMIT}
+use Rattle.crush_choose.specs.declared.limits.TheConstants.{SIZE_LIMIT}
 use Rattle.crush_pool.specs.Placers.{PoolOnMap}
 use Rattle.crush_report.specs.OnMaps.{answer_on, trace_on}
 use Rattle.crush_report.specs.declared.answers.Answers.{Answers}

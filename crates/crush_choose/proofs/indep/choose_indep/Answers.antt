@@ -5,7 +5,7 @@ use Rattle.crush_choose.specs.Indep.{indep}
 use Rattle.crush_choose.proofs.Answering.{indep_is, indep_rows}
 use Rattle.crush_choose.proofs.HopelessRounds.{same_items, same_leaves}
 use Rattle.crush_choose.proofs.indep.choose_indep.Goals as goal
-use Rattle.crush_choose.specs.declared.select_limits.TheConstants.{SIZE_LIMIT}
+use Rattle.crush_choose.specs.declared.limits.TheConstants.{SIZE_LIMIT}
 
 pub run_rounds-requires-clause-places : goal.run_rounds-requires-clause-places
 run_rounds-requires-clause-places c = take-replicate c.args.call.now.n SIZE_LIMIT None (omega arith)

@@ -1,6 +1,6 @@
 use Rattle.std.proofs.Common.{◌*◌, arith, ◌≤◌}
 use Rattle.std.specs.List.{range_with_len}
-use Rattle.crush_choose.specs.declared.select_limits.TheConstants.{SIZE_LIMIT}
+use Rattle.crush_choose.specs.declared.limits.TheConstants.{SIZE_LIMIT}
 use Rattle.crush_pool.specs.declared.limits.TheConstants.{GROUP_LIMIT}
 use Rattle.crush_report.specs.Moves.{gained_in, move_rows}
 use Rattle.crush_report.specs.OnMaps.{up_on}

@@ -7,7 +7,7 @@ use Rattle.crush_report.proofs.Gains.{gains_few}
 use Rattle.crush_report.proofs.OnMaps.{moves_on, up_few}
 use Rattle.crush_report.proofs.Short.{groups_few}
 use Rattle.crush_report.proofs.moved_groups.moves_with.Goals as goal
-use Rattle.crush_choose.specs.declared.select_limits.TheConstants.{SIZE_LIMIT}
+use Rattle.crush_choose.specs.declared.limits.TheConstants.{SIZE_LIMIT}
 use Rattle.crush_pool.specs.declared.limits.TheConstants.{GROUP_LIMIT}
 
 pub returns-clause-rows : goal.returns-clause-rows

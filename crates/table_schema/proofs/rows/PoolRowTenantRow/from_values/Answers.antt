@@ -5,7 +5,7 @@ use Rattle.std.proofs.lemmas.Int.{to_z-of_z}
 use Rattle.sqlite_value.specs.declared.value.Value.TheVariants.{Int, Text as Words}
 use Rattle.std.specs.Prelude.{string_bytes}
 use Rattle.sqlite_value.specs.Order.{column}
-use Rattle.table_schema.proofs.ReadsColumns.{nine}
+use Rattle.table_schema.proofs.RowLengths.{nine}
 use Rattle.table_schema.proofs.rows.PoolRowTenantRow.from_values.Goals as goal
 
 pub returns-clause-some : goal.returns-clause-some

@@ -4,7 +4,7 @@ use Rattle.std.proofs.Common.{rules, ◌≡◌, length, string_bytes, ◌∙◌}
 use Rattle.std.proofs.lemmas.Int.{to_z-of_z}
 use Rattle.sqlite_value.specs.declared.value.Value.TheVariants.{Int, Text as Words}
 use Rattle.sqlite_value.specs.Order.{column}
-use Rattle.table_schema.proofs.ReadsColumns.{five}
+use Rattle.table_schema.proofs.RowLengths.{five}
 use Rattle.table_schema.proofs.rows.ReceiptRowTenantRow.from_values.Goals as goal
 
 pub returns-clause-some : goal.returns-clause-some
