@@ -1,5 +1,8 @@
 //! The tables are made where there are none, and else their version is tested. Those of schema 1
 //! are replaced.
+//!
+//! What failed is reported by its error alone, with no look at the connection: after a failed
+//! opening it isn't used, so it is all the same whether it is open.
 
 ghost use Rattle.std.specs.Prelude.{pos, [], ◌∷◌, map, IsPermutation, ◌≡◌, ◌≢◌, ◌⊎◌, ◌↔◌, false, IfOk, IfErr, OnOk, OnErr, Err, IsTrue};
 ghost use Rattle.sqlite.specs.Held.{state};
@@ -9,14 +12,14 @@ ghost use Rattle.sqlite_value.specs.Order.{column};
 ghost use Rattle.sqlite.specs.Effect.{IsDatabase};
 ghost use Rattle.table_schema.specs.Layout.{no_schema, first_schema, IsStoreSchema, info_table};
 ghost use Rattle.table_schema.specs.Holds.{rows_in};
-ghost use Rattle.table_schema.specs.Ready.{Commits, Rests};
+ghost use Rattle.table_schema.specs.Ready.{Commits, Keeps, Rests};
 ghost use Rattle.tenant_tables.specs.Opened.{HasVersion, SaysVersion, IsKnown, IsBare, IsMigrated, IsStrange, SetsUp, Stays};
 
 use crate::write::{Write, run_all};
 use sqlite::{Alter, Connection, Error, Row};
 use std::alloc::AllocError;
 use table_schema::first::is_first;
-use table_schema::refuse::{fault_of, refusal};
+use table_schema::refuse::fault_of;
 use table_schema::rows::int_at;
 use table_schema::schema::layout_of;
 use tenant_messages::StoreFault;
@@ -32,13 +35,13 @@ fn is_empty<S: Alter>(conn: &Connection<S>) -> bool
 
 /// Makes the tables in a database that has none, all of them or none.
 ///
-/// `Err(StoreFault::NoMemory)`, `Err(StoreFault::Full)`: nothing is changed.
+/// `Err(StoreFault::NoMemory)`, `Err(StoreFault::Full)`: nothing is committed.
 fn make<S: Alter>(conn: &mut Connection<S>) -> Result<(), StoreFault>
     requires autocommit { conn.old.in_transaction ≡ false }
     requires settled { HasCleanDisk (state S.Store conn.old) → (state S.Store conn.old).now ≡ (state S.Store conn.old).committed }
     requires none { (state S.Store conn.old).now.schema ≡ no_schema }
     ensures done { HasCleanDisk (state S.Store conn.new) → OnOk result ((db : _) × IsBare db × Commits (state S.Store conn.old) (state S.Store conn.new) db) }
-    ensures refused { HasCleanDisk (state S.Store conn.new) → result ≢ Err StoreFault.Failed → OnErr result (Stays (state S.Store conn.old) (state S.Store conn.new)) }
+    ensures kept { HasCleanDisk (state S.Store conn.new) → OnErr result (Keeps (state S.Store conn.old) (state S.Store conn.new)) }
     ensures rows { result ≢ Err StoreFault.Damaged }
     ensures crash { Survives (state S.Store conn.old) (state S.Store conn.new) (λ trees. (db : _) × IsBare db × (trees ≡ db.trees)) }
     ensures ended { conn.new.in_transaction ≡ false }
@@ -72,7 +75,7 @@ fn make<S: Alter>(conn: &mut Connection<S>) -> Result<(), StoreFault>
     );
     match made {
         Ok(()) => Ok(()),
-        Err(error) => Err(refusal(conn, error)),
+        Err(error) => Err(fault_of(error)),
     }
 }
 
@@ -121,13 +124,15 @@ fn adopt<S: Alter>(conn: &mut Connection<S>, version: i64) -> Result<(), StoreFa
     requires known { IsKnown (state S.Store conn.old).now.schema }
     ensures version { HasCleanDisk (state S.Store conn.new) → OnOk result (SaysVersion version (state S.Store conn.old).now.trees) }
     ensures damaged { HasCleanDisk (state S.Store conn.new) → result ≡ Err StoreFault.Damaged → ¬ SaysVersion version (state S.Store conn.old).now.trees }
-    ensures same { HasCleanDisk (state S.Store conn.new) → result ≢ Err StoreFault.Failed → Stays (state S.Store conn.old) (state S.Store conn.new) }
+    ensures same { HasCleanDisk (state S.Store conn.new) → OnOk result (Stays (state S.Store conn.old) (state S.Store conn.new)) }
+    ensures stands { HasCleanDisk (state S.Store conn.new) → result ≡ Err StoreFault.Damaged → Stays (state S.Store conn.old) (state S.Store conn.new) }
+    ensures kept { HasCleanDisk (state S.Store conn.new) → OnErr result (Rests (state S.Store conn.old) (state S.Store conn.new)) }
     ensures survives { Survives (state S.Store conn.old) (state S.Store conn.new) (λ _. ⊥) }
     ensures ended { conn.new.in_transaction ≡ false }
 {
     let rows = match versions(conn) {
         Ok(rows) => rows,
-        Err(error) => return Err(refusal(conn, error)),
+        Err(error) => return Err(fault_of(error)),
     };
     if is_version(&rows, version)? {
         Ok(())
@@ -138,7 +143,7 @@ fn adopt<S: Alter>(conn: &mut Connection<S>, version: i64) -> Result<(), StoreFa
 
 /// Puts the tables of schema 2 in the place of those of schema 1, all of them or none.
 ///
-/// `Err(StoreFault::NoMemory)`, `Err(StoreFault::Full)`: nothing is changed.
+/// `Err(StoreFault::NoMemory)`, `Err(StoreFault::Full)`: nothing is committed.
 fn replace<S: Alter>(conn: &mut Connection<S>) -> Result<(), StoreFault>
     requires autocommit { conn.old.in_transaction ≡ false }
     requires settled { HasCleanDisk (state S.Store conn.old) → (state S.Store conn.old).now ≡ (state S.Store conn.old).committed }
@@ -146,7 +151,7 @@ fn replace<S: Alter>(conn: &mut Connection<S>) -> Result<(), StoreFault>
     requires first { HasCleanDisk (state S.Store conn.old) → (state S.Store conn.old).now.schema ≡ first_schema }
     requires version { HasCleanDisk (state S.Store conn.old) → HasVersion 1 (state S.Store conn.old).now.trees }
     ensures done { HasCleanDisk (state S.Store conn.new) → OnOk result ((db : _) × IsMigrated (state S.Store conn.old).now db × Commits (state S.Store conn.old) (state S.Store conn.new) db) }
-    ensures refused { HasCleanDisk (state S.Store conn.new) → result ≢ Err StoreFault.Failed → OnErr result (Stays (state S.Store conn.old) (state S.Store conn.new)) }
+    ensures kept { HasCleanDisk (state S.Store conn.new) → OnErr result (Keeps (state S.Store conn.old) (state S.Store conn.new)) }
     ensures rows { result ≢ Err StoreFault.Damaged }
     ensures crash { Survives (state S.Store conn.old) (state S.Store conn.new) (λ trees. (db : _) × IsMigrated (state S.Store conn.old).now db × (trees ≡ db.trees)) }
     ensures ended { conn.new.in_transaction ≡ false }
@@ -169,14 +174,14 @@ fn replace<S: Alter>(conn: &mut Connection<S>) -> Result<(), StoreFault>
     );
     match replaced {
         Ok(()) => Ok(()),
-        Err(error) => Err(refusal(conn, error)),
+        Err(error) => Err(fault_of(error)),
     }
 }
 
 /// Tests that the tables are of version 1, and replaces them.
 ///
 /// `Err(StoreFault::Damaged)`: they are of another version. Nothing is changed.
-/// `Err(StoreFault::NoMemory)`, `Err(StoreFault::Full)`: nothing is changed.
+/// `Err(StoreFault::NoMemory)`, `Err(StoreFault::Full)`: nothing is committed.
 fn migrate<S: Alter>(conn: &mut Connection<S>) -> Result<(), StoreFault>
     requires autocommit { conn.old.in_transaction ≡ false }
     requires open { HasCleanDisk (state S.Store conn.old) → IsTrue (state S.Store conn.old).is_open }
@@ -185,7 +190,8 @@ fn migrate<S: Alter>(conn: &mut Connection<S>) -> Result<(), StoreFault>
     requires first { (state S.Store conn.old).now.schema ≡ first_schema }
     ensures done { HasCleanDisk (state S.Store conn.new) → OnOk result ((db : _) × IsMigrated (state S.Store conn.old).now db × Commits (state S.Store conn.old) (state S.Store conn.new) db) }
     ensures damaged { HasCleanDisk (state S.Store conn.new) → result ≡ Err StoreFault.Damaged → ¬ HasVersion 1 (state S.Store conn.old).now.trees }
-    ensures refused { HasCleanDisk (state S.Store conn.new) → result ≢ Err StoreFault.Failed → OnErr result (Stays (state S.Store conn.old) (state S.Store conn.new)) }
+    ensures stands { HasCleanDisk (state S.Store conn.new) → result ≡ Err StoreFault.Damaged → Stays (state S.Store conn.old) (state S.Store conn.new) }
+    ensures kept { HasCleanDisk (state S.Store conn.new) → OnErr result (Rests (state S.Store conn.old) (state S.Store conn.new)) }
     ensures crash { Survives (state S.Store conn.old) (state S.Store conn.new) (λ trees. (db : _) × IsMigrated (state S.Store conn.old).now db × (trees ≡ db.trees)) }
     ensures ended { conn.new.in_transaction ≡ false }
 {
@@ -197,7 +203,7 @@ fn migrate<S: Alter>(conn: &mut Connection<S>) -> Result<(), StoreFault>
 /// they are schema 2.
 ///
 /// `Err(StoreFault::Damaged)`: they are another's, or of another version. Nothing is changed.
-/// `Err(StoreFault::NoMemory)`, `Err(StoreFault::Full)`: nothing is changed.
+/// `Err(StoreFault::NoMemory)`, `Err(StoreFault::Full)`: nothing is committed.
 pub fn set_up<S: Alter>(conn: &mut Connection<S>) -> Result<(), StoreFault>
     requires autocommit { conn.old.in_transaction ≡ false }
     requires open { HasCleanDisk (state S.Store conn.old) → IsTrue (state S.Store conn.old).is_open }
@@ -207,7 +213,8 @@ pub fn set_up<S: Alter>(conn: &mut Connection<S>) -> Result<(), StoreFault>
     ensures migrated { HasCleanDisk (state S.Store conn.new) → (state S.Store conn.old).now.schema ≡ first_schema → OnOk result ((db : _) × IsMigrated (state S.Store conn.old).now db × Commits (state S.Store conn.old) (state S.Store conn.new) db) }
     ensures known { OnOk result (((state S.Store conn.old).now.schema ≡ no_schema) ⊎ IsKnown (state S.Store conn.old).now.schema) }
     ensures damaged { HasCleanDisk (state S.Store conn.new) → result ≡ Err StoreFault.Damaged → IsStrange (state S.Store conn.old).now }
-    ensures refused { HasCleanDisk (state S.Store conn.new) → result ≢ Err StoreFault.Failed → OnErr result (Stays (state S.Store conn.old) (state S.Store conn.new)) }
+    ensures stands { HasCleanDisk (state S.Store conn.new) → result ≡ Err StoreFault.Damaged → Stays (state S.Store conn.old) (state S.Store conn.new) }
+    ensures kept { HasCleanDisk (state S.Store conn.new) → OnErr result (Rests (state S.Store conn.old) (state S.Store conn.new)) }
     ensures crash { Survives (state S.Store conn.old) (state S.Store conn.new) (SetsUp (state S.Store conn.old).now) }
     ensures ended { conn.new.in_transaction ≡ false }
 {

@@ -1,9 +1,6 @@
 use Rattle.std.proofs.Common.{◌≡◌}
-use Rattle.sqlite_trees.specs.Tree.{Trees}
-use Rattle.sqlite.specs.Effect.{Database}
 use Rattle.sqlite.specs.Held.{state}
-use Rattle.sqlite.proofs.StateLemmas.{survives_weaker, survives_then}
-use Rattle.tenant_tables.specs.Opened.{IsBare}
+use Rattle.sqlite.proofs.StateLemmas.{survives_weaker}
 use Rattle.tenant_tables.proofs.Bare.{makes_bare}
 use Rattle.tenant_tables.proofs.open.make.Goals as goal
 
@@ -18,9 +15,4 @@ returns-in-Ok-clause-crash g c =
 
 pub returns-in-Err-clause-crash : goal.returns-in-Err-clause-crash
 returns-in-Err-clause-crash g c =
-    let old = state g.S.Store c.args.conn.now in
-    let mid = state g.S.Store c.run_all-made.new.conn in
-    let new = state g.S.Store c.refusal.new.conn in
-    let P = λ (trees : Trees). (db : Database) × IsBare db × (trees ≡ db.trees) in
-    survives_then old mid new P (λ _. ⊥) P (λ _ db left. left) (λ _ db none. absurd none)
-    (survives_weaker old mid _ P (λ clean trees left. (left.0, makes_bare g.S.Store c.args.conn.now c.requires.none left.0 left.1, left.2)) c.run_all-made.ensures.crash) c.refusal.ensures.survives
+    survives_weaker (state g.S.Store c.args.conn.now) (state g.S.Store c.run_all-made.new.conn) _ _ (λ clean trees left. (left.0, makes_bare g.S.Store c.args.conn.now c.requires.none left.0 left.1, left.2)) c.run_all-made.ensures.crash
