@@ -1,6 +1,6 @@
 -- How a script over a file ends, from how it ends over the ready store.
 use Rattle.std.proofs.lemmas.Bool.{false≢true}
-use Rattle.std.proofs.Common.{◌≡◌, ◌⊎◌, ◌∙◌, ◌||◌, ℕ, List, Bool, true, false, Option, Result, Ok, Err, IsOk, ap, inl, inr, refl, subst}
+use Rattle.std.proofs.Common.{◌≡◌, ◌⊎◌, ◌∙◌, ◌||◌, ℕ, List, Bool, true, false, Option, Result, Ok, Err, IfErr, IsOk, ap, inl, inr, refl, subst}
 use Rattle.std.specs.declared.alloc.AllocError.{AllocError}
 use Rattle.sqlite_disk.specs.declared.Disk as disk
 use Rattle.sqlite_disk.specs.declared.Files.{Files}
@@ -18,6 +18,7 @@ use Rattle.tenant_files.proofs.ClosedFacts.{given_clean}
 use Rattle.tenant_files.proofs.StoredFacts.{same_states}
 use Rattle.tenant_files.proofs.UsedFacts.{held, uses_file, uses_files}
 use Rattle.tenant_files.specs.Closed.{GivesBack}
+use Rattle.tenant_files.specs.Closing.{FailsToCopy}
 use Rattle.tenant_files.specs.Opened.{IsFound}
 use Rattle.tenant_files.specs.Stored.{MayStandFor}
 use Rattle.tenant_files.specs.Used.{AreAsBefore}
@@ -64,15 +65,17 @@ module _ {D F : Type 0} (g : disk.Ghosts D) (store : Held (FileStore D g) × Boo
   -- at the closing the rows are what the file holds
   pub ends_on_files : SeenMayStay g → first ≡ ((store, watch), false) → store.1 ≡ false → GivesBack last.0.0.0 copied files → (HasCleanDisk (file_state last.0.0.0) → IsHonest over_files last.0.0)
       → (IsHonest over_files last.0.0 → IsHonest over_files first.0.0) → LatchesAs end (last.0.0.1 || last.1) → ((last.0.0.1 || last.1) ≡ true → copied ≡ Err Store)
+      → ((last.0.0.1 || last.1) ≡ false → IfErr copied (FailsToCopy last.0.0.0 files))
       → EndsScript (last ≡ first) (OnReady first) end reads left from to → EndsOnFiles g store.0 end copied files reads left from to
-  ends_on_files stays made works given honest earlier latch given_up said =
+  ends_on_files stays made works given honest earlier latch given_up cause said =
+      let works_after : (end ≡ Ok Done) ⊎ IsOk copied → (last.0.0.1 || last.1) ≡ false = works_then end (last.0.0.1 || last.1) copied latch given_up in
       let now : AreClean g files.log files.db → HasCleanDisk (file_state last.0.0.0) = given_clean last.0.0.0 copied files given in
       let ready : HasCleanDisk (file_state last.0.0.0) → (end ≡ Ok Done) ⊎ IsOk copied → IsReady (file_state last.0.0.0) =
-      λ clean done. (honest clean).ready (works_below last.0.0.1 last.1 (works_then end (last.0.0.1 || last.1) copied latch given_up done)) in
+      λ clean done. (honest clean).ready (works_below last.0.0.1 last.1 (works_after done)) in
       let old = StandsFor (file_state store.0).now.trees in
       let new = StandsFor (file_state last.0.0.0).now.trees in
       uses_files stays store last.0.0.0 copied files ((end ≡ Ok Done) ⊎ IsOk copied) (Said g store.0 end files reads left from to) works given
-      (λ clean. subst (λ (x : ((Held (FileStore D g) × Bool) × F) × Bool). IsHonest over_files x.0.0) made (earlier (honest clean))) ready
+      (λ clean. subst (λ (x : ((Held (FileStore D g) × Bool) × F) × Bool). IsHonest over_files x.0.0) made (earlier (honest clean))) ready (λ done. cause (works_after done))
       (ends_map (last ≡ first) (last.0.0.0 ≡ store.0) (OnReady first) (OnFiles g store.0 end files reads left from to last.0.0.0) end reads left from to (λ same. ap (λ x. x.0.0.0) (same ∙ made))
       (λ how ms is plays clean.
       script_same how (last.0.0.1 || last.1) old old new (StatesIn (file_state last.0.0.0).committed) (MayStandFor over_files last.0.0.0) ms from to (same_states old)
@@ -82,9 +85,9 @@ module _ {D F : Type 0} (g : disk.Ghosts D) (store : Held (FileStore D g) × Boo
 
 -- no line was served
 pub ends_unserved : {D : Type 0} (g : disk.Ghosts D) (store : Held (FileStore D g) × Bool) (e : AllocError) (copied : Result (Unit {0}) FileFault) (files : Files D) (reads to : Option (List ℕ))
-    → SeenMayStay g → store.1 ≡ false → GivesBack store.0 copied files → (HasCleanDisk (file_state store.0) → IsHonest over_files store) → EndsOnFiles g store.0 (Err e) copied files reads reads to to
-ends_unserved g store e copied files reads to stays works given honest =
-    uses_files stays store store.0 copied files ((Err e ≡ Ok Done) ⊎ IsOk copied) (Said g store.0 (Err e) files reads reads to to) works given honest (λ clean done. (honest clean).ready works)
+    → SeenMayStay g → store.1 ≡ false → GivesBack store.0 copied files → IfErr copied (FailsToCopy store.0 files) → (HasCleanDisk (file_state store.0) → IsHonest over_files store) → EndsOnFiles g store.0 (Err e) copied files reads reads to to
+ends_unserved g store e copied files reads to stays works given cause honest =
+    uses_files stays store store.0 copied files ((Err e ≡ Ok Done) ⊎ IsOk copied) (Said g store.0 (Err e) files reads reads to to) works given honest (λ clean done. (honest clean).ready works) (λ _. cause)
     (record { as_before = refl; unwritten = keeps_itself to })
 
 -- with the opening

@@ -1,6 +1,6 @@
 -- How serving clients over a file ends, from how it ends over the ready store.
 use Rattle.std.proofs.lemmas.Bool.{false≢true}
-use Rattle.std.proofs.Common.{◌≡◌, ◌≢◌, ◌∙◌, ◌||◌, ℕ, ◌<◌, ◌≤◌, List, Bool, true, false, Option, Result, Ok, Err, ap, refl, subst, sym}
+use Rattle.std.proofs.Common.{◌≡◌, ◌≢◌, ◌∙◌, ◌||◌, ℕ, ◌<◌, ◌≤◌, List, Bool, true, false, Option, Result, Ok, Err, IfErr, ap, refl, subst, sym}
 use Rattle.std.specs.Prelude.{⊤}
 use Rattle.sqlite_disk.specs.declared.Disk as disk
 use Rattle.sqlite_disk.specs.declared.Files.{Files}
@@ -17,6 +17,7 @@ use Rattle.tenant_files.proofs.ClosedFacts.{given_clean}
 use Rattle.tenant_files.proofs.StoredFacts.{meets_same, same_states}
 use Rattle.tenant_files.proofs.UsedFacts.{held, uses_file, uses_files}
 use Rattle.tenant_files.specs.Closed.{GivesBack}
+use Rattle.tenant_files.specs.Closing.{FailsToCopy}
 use Rattle.tenant_files.specs.Opened.{IsFound}
 use Rattle.tenant_files.specs.Stored.{MayStandFor}
 use Rattle.tenant_files.specs.Used.{AreAsBefore}
@@ -82,14 +83,14 @@ serves_same : (is : Bool) (a b c d : States) (left : Outcomes) (cs : List Call) 
 serves_same is a b c d left cs rs before after s =
     record { meets = meets_same is a b c d cs rs before after s.meets; session = λ was. session_same a b left cs rs before (s.session was) }
 
--- the store below a watched one didn't fail for good, or no client was accepted
-still_works : {H F : Type 0} (first last : ((H × Bool) × F) × Bool) (end : Result (Unit {0}) ServerFault) (AsBefore : Type 0) (P : List Call → List Reply → Type 0) (most : ℕ) (from to : Option Clients)
-    → first.0.0.1 ≡ false → LatchesAs end (last.0.0.1 || last.1) → EndsServing ((last ≡ first) × AsBefore) P end most from to → end ≢ Err Store → last.0.0.1 ≡ false
-still_works first last (Ok done) AsBefore P most from to worked latch said works = works_below last.0.0.1 last.1 latch
-still_works first last (Err Store) AsBefore P most from to worked latch said works = absurd (works refl)
-still_works first last (Err NoMemory) AsBefore P most from to worked latch said works = ap (λ x. x.0.0.1) said.0 ∙ worked
-still_works first last (Err CannotListen) AsBefore P most from to worked latch said works = ap (λ x. x.0.0.1) said.0 ∙ worked
-still_works first last (Err WriteFault) AsBefore P most from to worked latch said works = ap (λ x. x.0.0.1) said.0 ∙ worked
+-- the store didn't fail for good, or no client was accepted
+not_failed : {H F : Type 0} (first last : ((H × Bool) × F) × Bool) (end : Result (Unit {0}) ServerFault) (AsBefore : Type 0) (P : List Call → List Reply → Type 0) (most : ℕ) (from to : Option Clients)
+    → (first.0.0.1 || first.1) ≡ false → LatchesAs end (last.0.0.1 || last.1) → EndsServing ((last ≡ first) × AsBefore) P end most from to → end ≢ Err Store → (last.0.0.1 || last.1) ≡ false
+not_failed first last (Ok done) AsBefore P most from to worked latch said works = latch
+not_failed first last (Err Store) AsBefore P most from to worked latch said works = absurd (works refl)
+not_failed first last (Err NoMemory) AsBefore P most from to worked latch said works = ap (λ x. x.0.0.1 || x.1) said.0 ∙ worked
+not_failed first last (Err CannotListen) AsBefore P most from to worked latch said works = ap (λ x. x.0.0.1 || x.1) said.0 ∙ worked
+not_failed first last (Err WriteFault) AsBefore P most from to worked latch said works = ap (λ x. x.0.0.1 || x.1) said.0 ∙ worked
 
 -- ---- over files
 
@@ -112,17 +113,18 @@ module _ {D F : Type 0} (g : disk.Ghosts D) (store : Held (FileStore D g) × Boo
   -- at the closing the rows are what the file holds. The clients were the same before the listener
   -- was made ready
   pub ends_on_files : SeenMayStay g → first ≡ ((store, watch), false) → store.1 ≡ false → GivesBack last.0.0.0 copied files → (HasCleanDisk (file_state last.0.0.0) → IsHonest over_files last.0.0)
-      → (IsHonest over_files last.0.0 → IsHonest over_files first.0.0) → LatchesAs end (last.0.0.1 || last.1) → (AsBefore → to ≡ from) → from ≡ before
+      → (IsHonest over_files last.0.0 → IsHonest over_files first.0.0) → LatchesAs end (last.0.0.1 || last.1) → ((last.0.0.1 || last.1) ≡ false → IfErr copied (FailsToCopy last.0.0.0 files)) → (AsBefore → to ≡ from) → from ≡ before
       → EndsServing ((last ≡ first) × AsBefore) (OnReady first (last.0.0.1 || last.1)) end most from to → ServesOnFiles g store.0 end copied files most before to
-  ends_on_files stays made works given honest earlier latch none same said =
+  ends_on_files stays made works given honest earlier latch cause none same said =
       let now : AreClean g files.log files.db → HasCleanDisk (file_state last.0.0.0) = given_clean last.0.0.0 copied files given in
-      let worked : first.0.0.1 ≡ false = ap (λ x. x.0.0.1) made ∙ works in
+      let worked : (first.0.0.1 || first.1) ≡ false = ap (λ x. x.0.0.1 || x.1) made ∙ ap (λ b. b || false) works in
+      let works_after : end ≢ Err Store → (last.0.0.1 || last.1) ≡ false = not_failed first last end AsBefore (OnReady first (last.0.0.1 || last.1)) most from to worked latch said in
       let ready : HasCleanDisk (file_state last.0.0.0) → end ≢ Err Store → IsReady (file_state last.0.0.0) =
-      λ clean done. (honest clean).ready (still_works first last end AsBefore (OnReady first (last.0.0.1 || last.1)) most from to worked latch said done) in
+      λ clean done. (honest clean).ready (works_below last.0.0.1 last.1 (works_after done)) in
       let old = StandsFor (file_state store.0).now.trees in
       let new = StandsFor (file_state last.0.0.0).now.trees in
       uses_files stays store last.0.0.0 copied files (end ≢ Err Store) (Said g store.0 end files most before to) works given
-      (λ clean. subst (λ (x : ((Held (FileStore D g) × Bool) × F) × Bool). IsHonest over_files x.0.0) made (earlier (honest clean))) ready
+      (λ clean. subst (λ (x : ((Held (FileStore D g) × Bool) × F) × Bool). IsHonest over_files x.0.0) made (earlier (honest clean))) ready (λ done. cause (works_after done))
       (subst (λ (o : Option Clients). EndsServing ((last.0.0.0 ≡ store.0) × (to ≡ before)) (OnFiles g store.0 end files most before to last.0.0.0) end most o to) same
       (serving_map ((last ≡ first) × AsBefore) ((last.0.0.0 ≡ store.0) × (to ≡ before)) (OnReady first (last.0.0.1 || last.1)) (OnFiles g store.0 end files most before to last.0.0.0) end most from to
       (λ u. (ap (λ x. x.0.0.0) (u.0 ∙ made), none u.1 ∙ same))
@@ -135,10 +137,10 @@ module _ {D F : Type 0} (g : disk.Ghosts D) (store : Held (FileStore D g) × Boo
 
 -- no client was accepted
 pub ends_unserved : {D : Type 0} (g : disk.Ghosts D) (store : Held (FileStore D g) × Bool) (fault : ServerFault) (copied : Result (Unit {0}) FileFault) (files : Files D) (most : ℕ)
-    (before to : Option Clients) → SeenMayStay g → store.1 ≡ false → GivesBack store.0 copied files → (HasCleanDisk (file_state store.0) → IsHonest over_files store) → (fault ≡ Store → ⊥) → to ≡ before
+    (before to : Option Clients) → SeenMayStay g → store.1 ≡ false → GivesBack store.0 copied files → IfErr copied (FailsToCopy store.0 files) → (HasCleanDisk (file_state store.0) → IsHonest over_files store) → (fault ≡ Store → ⊥) → to ≡ before
     → ServesOnFiles g store.0 (Err fault) copied files most before to
-ends_unserved g store fault copied files most before to stays works given honest other same =
-    uses_files stays store store.0 copied files (Err fault ≢ Err Store) (Said g store.0 (Err fault) files most before to) works given honest (λ clean done. (honest clean).ready works)
+ends_unserved g store fault copied files most before to stays works given cause honest other same =
+    uses_files stays store store.0 copied files (Err fault ≢ Err Store) (Said g store.0 (Err fault) files most before to) works given honest (λ clean done. (honest clean).ready works) (λ _. cause)
     (ends_as_before _ (OnFiles g store.0 (Err fault) files most before to store.0) fault most before to other (refl, same))
 
 -- with the opening

@@ -13,7 +13,9 @@ pub(crate) fn assert_served<L: Listener>(
     alloc: Global,
     clients: &mut L,
     connections: u32,
-) {
+)
+    requires { L.can_accept clients.old }
+{
     let mut service = Service::in_memory(alloc).expect(rt, "no memory");
     serve_connections(alloc, &mut service, clients, connections).expect(rt, "not all served");
 }

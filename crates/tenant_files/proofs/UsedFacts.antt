@@ -1,5 +1,5 @@
 -- A database file that a call opened, worked on, and gave back.
-use Rattle.std.proofs.Common.{◌≡◌, ℕ, List, Bool, false, Option, Result, subst, sym}
+use Rattle.std.proofs.Common.{◌≡◌, ℕ, List, Bool, false, IfErr, Option, Result, subst, sym}
 use Rattle.sqlite_disk.specs.declared.Disk as disk
 use Rattle.sqlite_disk.specs.declared.Files.{Files}
 use Rattle.sqlite_wal.proofs.LogLemmas.{SeenMayStay}
@@ -21,6 +21,7 @@ use Rattle.tenant_store.specs.Shown.{IsHonest}
 use Rattle.tenant_files.proofs.ClosedFacts.{given_clean}
 use Rattle.tenant_files.proofs.StoredFacts.{damaged_too, left_states, turned}
 use Rattle.tenant_files.specs.Closed.{GivesBack}
+use Rattle.tenant_files.specs.Closing.{FailsToCopy}
 use Rattle.tenant_files.specs.Opened.{IsFound}
 use Rattle.tenant_files.specs.Stored.{MayStandFor}
 use Rattle.tenant_files.specs.Used.{AreAsBefore, UsesFile, UsesFiles}
@@ -59,8 +60,8 @@ module _ {D : Type 0} {g : disk.Ghosts D} where
   -- by a store that worked at first
   pub uses_files : SeenMayStay g → (store : Held (FileStore D g) × Bool) (last : Held (FileStore D g)) (copied : Result (Unit {0}) FileFault) (files : Files D) (IsDone : Type 0)
       (Says : Held (FileStore D g) → Type 0) → store.1 ≡ false → GivesBack last copied files → (HasCleanDisk (file_state last) → IsHonest over_files store)
-      → (HasCleanDisk (file_state last) → IsDone → IsReady (file_state last)) → Says last → UsesFiles g store.0 copied files IsDone Says
-  uses_files stays store last copied files IsDone Says works given honest ready says = record {
+      → (HasCleanDisk (file_state last) → IsDone → IsReady (file_state last)) → (IsDone → IfErr copied (FailsToCopy last files)) → Says last → UsesFiles g store.0 copied files IsDone Says
+  uses_files stays store last copied files IsDone Says works given honest ready cause says = record {
     last = last;
     given = given;
     was_clean = λ clean. (honest (given_clean last copied files given clean)).clean;
@@ -68,6 +69,7 @@ module _ {D : Type 0} {g : disk.Ghosts D} where
     tables = λ clean done.
         let r = ready (given_clean last copied files given clean) done in
         subst (λ (db : Database). IsStoreSchema db.schema) r.settled r.schema;
+    cause = cause;
     says = says;
   }
 
@@ -87,6 +89,7 @@ module _ {D : Type 0} {g : disk.Ghosts D} where
         last = uses.last;
         given = uses.given;
         tables = uses.tables;
+        cause = uses.cause;
         says =
             follows uses.last old same
             (λ is clean. subst (λ (x : Held (FileStore D g)). AreAsBefore old (StatesIn (file_state x).committed) (MayStandFor over_files x)) (sym is)

@@ -1,5 +1,5 @@
 -- What is said of a database file that a call opened, worked on, and gave back.
-use Rattle.std.specs.Prelude.{Result}
+use Rattle.std.specs.Prelude.{Result, IfErr}
 use Rattle.sqlite_disk.specs.declared.Disk as disk
 use Rattle.sqlite_disk.specs.declared.Files.{Files}
 use Rattle.sqlite_wal.specs.Reads.{AreClean}
@@ -11,6 +11,7 @@ use Rattle.sqlite.specs.State.{HasCleanDisk}
 use Rattle.table_schema.specs.Layout.{IsStoreSchema}
 use Rattle.tenant_core.specs.States.{LeavesAsItWas, Outcomes, Same, States}
 use Rattle.tenant_files.specs.Closed.{GivesBack}
+use Rattle.tenant_files.specs.Closing.{FailsToCopy}
 use Rattle.tenant_files.specs.Opened.{Finds}
 use Rattle.tenant_files.specs.Stored.{MayStandFor}
 use Rattle.tenant_files.specs.declared.fault.FileFault.{FileFault}
@@ -30,8 +31,9 @@ pub record UsesFiles {D : Type 0} (g : disk.Ghosts D) (first : Held (FileStore D
   pub was_clean : AreClean g files.log files.db → HasCleanDisk (file_state first)
   -- the rows at the beginning stood for the tenants in the file
   pub began : AreClean g files.log files.db → AreAsBefore (StandsFor (file_state first).now.trees) (StatesIn (file_state first).committed) (MayStandFor over_files first)
-  -- once all is done, the file has this service's tables
+  -- once all is done, the file has this service's tables, and a log that wasn't copied has a cause
   pub tables : AreClean g files.log files.db → IsDone → IsStoreSchema (file_state last).committed.schema
+  pub cause : IsDone → IfErr copied (FailsToCopy last files)
   pub says : Says last
 
 -- From what the two files held: `was` is the database as the opening found it in them, and `last`
@@ -43,4 +45,5 @@ pub record UsesFile {D : Type 0} (g : disk.Ghosts D) (image : Image) (copied : R
   pub last : Held (FileStore D g)
   pub given : GivesBack last copied files
   pub tables : AreClean g files.log files.db → IsDone → IsStoreSchema (file_state last).committed.schema
+  pub cause : IsDone → IfErr copied (FailsToCopy last files)
   pub says : Says (AreClean g files.log files.db) (StatesIn (file_state was).committed) (StatesIn (file_state last).committed) (MayStandFor over_files last)

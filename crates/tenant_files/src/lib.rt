@@ -4,6 +4,7 @@
 
 mod closing;
 mod fault;
+pub mod laws;
 mod log;
 mod opening;
 mod ready;

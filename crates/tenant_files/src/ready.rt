@@ -36,6 +36,7 @@ pub fn ready_over<D: Disk + Drop, F: Watch + Drop>(
 ) -> Result<ReadyStore<D, F>, Closed<D>>
     ensures made { IfOk result (λ ready. ready ≡ ((store, watch), false)) }
     ensures given { IfErr result (λ closed. GivesBack store.0 closed.copied closed.files) }
+    ensures cause { IfErr result (λ closed. IfErr closed.copied (FailsToCopy store.0 closed.files)) }
     ensures honest { OnErr result (HasCleanDisk (file_state store.0) → IsHonest over_files store) }
 {
     let watched = WatchedStore::over(store, watch);

@@ -12,7 +12,7 @@ returns-clause-ends g c =
     let closed = c.close_ready-closed in
     ends_on_files g.D.Disk c.args.store c.args.watch c.in-Ok.ready played.result.1 played.result.0 closed.result.copied closed.result.files (g.R.Read.remaining c.args.reader.now)
     (g.R.Read.remaining played.new.reader) (g.W.Write.contents c.args.writer.now) (g.W.Write.contents played.new.writer) g.met.D.Disk.seen_may_stay c.in-Ok.ensures.made c.requires.works closed.ensures.given
-    closed.ensures.honest played.ensures.honest played.ensures.latch closed.ensures.failed played.ensures.ends
+    closed.ensures.honest played.ensures.honest played.ensures.latch closed.ensures.failed closed.ensures.cause played.ensures.ends
 
 pub returns-clause-failed : goal.returns-clause-failed
 returns-clause-failed g c = λ is.
@@ -24,4 +24,4 @@ pub returns-in-Err-clause-ends : goal.returns-in-Err-clause-ends
 returns-in-Err-clause-ends g c =
     let closed = c.in-Err.closed in
     ends_unserved g.D.Disk c.args.store _ closed.copied closed.files (g.R.Read.remaining c.args.reader.now) (g.W.Write.contents c.args.writer.now) g.met.D.Disk.seen_may_stay c.requires.works
-    c.in-Err.ensures.given c.in-Err.ensures.honest
+    c.in-Err.ensures.given c.in-Err.ensures.cause c.in-Err.ensures.honest

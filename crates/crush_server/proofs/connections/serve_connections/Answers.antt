@@ -11,6 +11,7 @@ loop-connection-init g c =
     let store = g.T.TenantStore in
     let old = c.args.service.now in record {
       works = c.requires.works;
+      listens = c.requires.listens;
       honest = λ is. is;
       served = clients_none (λ calls replies. store.is_honest old → MeetsDefinition false (store.has_state old) (store.has_state old) calls replies) (g.L.Listener.clients c.args.listener.now) (λ _. meets_none (store.has_state old));
     }
@@ -24,6 +25,7 @@ loop-connection-preserved g c =
     let so_far = c.loop-connection.invariant in
     let works : store.latched new ≡ false = sym c.is_latched.ensures ∙ c.if-is_latched.false in record {
       works = works;
+      listens = c.serve_client.ensures.listens;
       honest = λ is. so_far.honest (c.serve_client.ensures.honest is);
       served = subst (λ (n : ℕ). ServesClients (λ calls replies. store.is_honest new → MeetsDefinition false (store.has_state old) (store.has_state new) calls replies) n (g.L.Listener.clients c.args.listener.now) (g.L.Listener.clients c.serve_client.new.listener))
           (sym (add-one c.loop-connection._connection))
