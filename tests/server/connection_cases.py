@@ -141,6 +141,18 @@ def silent_clients(program, db):
         return why or (None if WAIT - 1 < spent < WAIT + 5 else f"the next waited {spent:.1f} seconds") or (None if more < LITTLE else f"it took {more:,} bytes")
 
 
+def silent_clients_in_a_row(program, db):
+    """Each client's seconds begin at 0: after six that say nothing for five seconds each, as long
+    together as one message may take, the next is served as ever."""
+    with Server(program, db) as server:
+        silent = [server.connect() for _each in range(6)]
+        why = goes_on(server)
+        for connection in silent:
+            why = why or unlike(connection.recv(1), b"")
+            connection.close()
+        return why
+
+
 def resets(program, db):
     """A client that resets its connection, before a message, in one, and with replies on their way,
     does no harm."""
@@ -198,4 +210,5 @@ def accepts_that_fail(program, db):
 
 
 def cases():
-    return (accepts_that_fail, two_messages, byte_by_byte, examples, heads, bodies, third_messages, last_messages, silent_clients, resets, half_closes)
+    return (accepts_that_fail, two_messages, byte_by_byte, examples, heads, bodies, third_messages, last_messages,
+        silent_clients, silent_clients_in_a_row, resets, half_closes)
