@@ -18,28 +18,6 @@ use Rattle.crush_bucket.specs.Pick.{pick, pick_as}
 use Rattle.crush_bucket.proofs.Greatest.{greatest_is}
 use Rattle.crush_bucket.proofs.First.{first_is}
 
-laid_below : HasPlaces → (t : TablesView) → IsLaid t → PicksBelow t
-unfolding pick_at
-laid_below places t laid bucket x r lt some =
-    let is = pick_item places (bucket_at t bucket) x r some in
-    rw is.2 at (laid.below bucket is.0 lt is.1)
-
-pub picks_below : HasPlaces → (m : Map) → HasSoundBuckets m → PicksBelow (tables_of m)
-picks_below places m are = laid_below places (tables_of m) (is_laid m are)
-
-type_is : (m : Map) (i : ℕ) (d : Bucket) → i < length m.buckets → type_at (tables_of m) i ≡ (slice_index_or m.buckets i d).kind_of
-type_is m i d below = ap (λ (b : TypedBucket). b.of_type) (get_or-map typed_bucket m.buckets i d no_bucket below)
-
-no_zero : (n : ℕ) → (n == 0) ≡ false → n ≢ 0
-no_zero n h e = let bad : (0 == 0) ≡ false = rw e at h in cc
-
-pub no_device_bucket : (m : Map) → HasSoundBuckets m → HasNoDeviceBucket (tables_of m)
-no_device_bucket m are item i numbered =
-    let d = no_declaration in
-    let few : i < length (tables_of m).buckets = numbered_within (tables_of m) item (Some i) (sym numbered) in
-    let below : i < length m.buckets = omega (arith, few, length-map m.buckets typed_bucket) in
-    rw (type_is m i d below) (no_zero (slice_index_or m.buckets i d).kind_of (sound_at m are i d below).no_device)
-
 -- the item at a place of the bucket is an item of it
 at_place : (items : List WeightedItem) (place : ℕ) → place < length items → IsItemOf items (item_at items place)
 at_place items place lt = (place, lt, refl)
@@ -80,3 +58,25 @@ as_item places Straw2 b x r some = straw2_item b.items x r some
 pub pick_item : HasPlaces → (b : BucketView) (x r : ℕ) → 0 < length b.items → IsItemOf b.items (pick b x r)
 unfolding pick
 pick_item places b x r some = as_item places b.kind b x r some
+
+laid_below : HasPlaces → (t : TablesView) → IsLaid t → PicksBelow t
+unfolding pick_at
+laid_below places t laid bucket x r lt some =
+    let is = pick_item places (bucket_at t bucket) x r some in
+    rw is.2 at (laid.below bucket is.0 lt is.1)
+
+pub picks_below : HasPlaces → (m : Map) → HasSoundBuckets m → PicksBelow (tables_of m)
+picks_below places m are = laid_below places (tables_of m) (is_laid m are)
+
+type_is : (m : Map) (i : ℕ) (d : Bucket) → i < length m.buckets → type_at (tables_of m) i ≡ (slice_index_or m.buckets i d).kind_of
+type_is m i d below = ap (λ (b : TypedBucket). b.of_type) (get_or-map typed_bucket m.buckets i d no_bucket below)
+
+no_zero : (n : ℕ) → (n == 0) ≡ false → n ≢ 0
+no_zero n h e = let bad : (0 == 0) ≡ false = rw e at h in cc
+
+pub no_device_bucket : (m : Map) → HasSoundBuckets m → HasNoDeviceBucket (tables_of m)
+no_device_bucket m are item i numbered =
+    let d = no_declaration in
+    let few : i < length (tables_of m).buckets = numbered_within (tables_of m) item (Some i) (sym numbered) in
+    let below : i < length m.buckets = omega (arith, few, length-map m.buckets typed_bucket) in
+    rw (type_is m i d below) (no_zero (slice_index_or m.buckets i d).kind_of (sound_at m are i d below).no_device)
