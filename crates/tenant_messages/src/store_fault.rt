@@ -17,7 +17,7 @@ pub enum StoreFault {
 
 impl From<AllocError> for StoreFault {
     ghost use Rattle.std.specs.Prelude.{◌≡◌};
-    ghost use Rattle.tenant_messages.specs.declared.StoreFault.TheVariants.{NoMemory};
+    ghost use Rattle.tenant_messages.specs.declared.store_fault.StoreFault.TheVariants.{NoMemory};
 
     ghost from_gives = { λ _ fault. fault ≡ NoMemory };
 
