@@ -2,8 +2,7 @@
 //! builds it without proofs, which it says of itself, and puts in the version and the codes.
 #![tactic(auto)]
 
-use crush_app::{CheckEnd, ScriptEnd, check_run};
-use crush_memory::script_in_memory;
+use crush_app::{CheckEnd, ScriptEnd, check_run, script_in_memory};
 use std::fs::File;
 use std::num::NonZeroUsize;
 use std::process::ExitCode;

@@ -105,11 +105,12 @@ CITED = {("one", "Held", "Holds"), ("one", "Held", "IsOpen"), ("two", "Rows", "R
 
 # ---- the calls of some crates
 KNOWN = {
-    "crush_hash": "hash1 hash2 hash3 hash4 hash5 name_hash hash3_lanes hash3_each hash3_four hash3_items hash4_each hash4_four hash4_lanes",
-    "crush_permutation": "Perm::build Perm::member Perm::kept Perms::build Perms::member eight_members permutation_has_each_place a_perm_keeps_few_places",
+    "crush_hash": "hash1 hash2 hash3 hash4 hash5 name_hash hash3_lanes hash3_each hash3_four hash3_items hash4_each hash4_four hash4_lanes Perm::build Perm::member Perm::kept Perms::build Perms::member eight_members permutation_has_each_place a_perm_keeps_few_places",
     "crush_writing": "write_map",
-    "tenant_picks": "read_pick answer AskedBucket::new AskedBucket::pick picks_are_of_the_form",
-    "tenant_history": "history a_number_with_a_receipt_changes_nothing only_a_drop_takes_a_receipt_away a_changing_request_has_the_path_and_the_body_of_its_call",
+    "tenant_reports": "read_pick answer AskedBucket::new AskedBucket::pick picks_are_of_the_form read_changes device_csv_requests_are_of_the_form id_of touched_reply moved_reply MoveRow::push UsageRow::push",
+    "tenant_service": "history a_number_with_a_receipt_changes_nothing only_a_drop_takes_a_receipt_away a_changing_request_has_the_path_and_the_body_of_its_call "
+    "memory_stores_are_honest MemoryStore::new MemoryStore::is_latched MemoryStore::load MemoryStore::find_receipt MemoryStore::create MemoryStore::commit MemoryStore::remove "
+    "Service::in_memory Service::over Service::with_routes Service::into_store Service::is_latched Service::request Service::run Service::run_session write_whole shown_body",
 }
 
 

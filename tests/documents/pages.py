@@ -80,7 +80,7 @@ RECIPES = {
     "A reading route": (r"\b[Rr]oute(::|\.)Usage\b|\b[Qq]uery(::|\.)Usage\b|\(Usage q\)", "crates"),
     "A changing route": (r"\bOrder::RemovePool\b|\(RemovePool id\) (inventory|s)|\bMade::NoPool\b|\bRemovedPool\b", "crates"),
     "A column of a report": (r"\bpermille\b", "crates"),
-    "A table or column of the file": (r"\bhashpspool\b", "crates/table_", "crates/tenant_tables", "crates/tenant_rows"),
+    "A table or column of the file": (r"\bhashpspool\b", "crates/table_", "crates/tenant_tables"),
     "A bucket kind": (r"\bKind::Tree\b|\bListKind\b|\bDraw::Tree\b", "crates"),
     "A fault of maps": (r"\bM15\b", "crates"),
     "A limit, a timeout, an option": (r"\bWAIT_SECONDS\b|\bMESSAGE_SECONDS\b|\"cache\"|--cache|\\-\\-cache", "crates", "package"),
