@@ -1,4 +1,4 @@
-use Rattle.std.proofs.Common.{rules, subst, arith}
+use Rattle.std.proofs.Common.{subst, arith}
 use Rattle.std.proofs.lemmas.Result.{on_ok_weaker}
 use Rattle.sqlite.specs.Effect.{Database}
 use Rattle.sqlite.specs.Held.{state}
@@ -12,7 +12,7 @@ returns-clause-done g c clean =
     let mid = state g.S.Store c.adopt.new.conn in
     let middle : HasCleanDisk mid = omega (arith, clean, c.replace.ensures.crash.clean) in
     let early : HasCleanDisk old = omega (arith, middle, c.adopt.ensures.survives.clean) in
-    let stays = c.in_ok-adopt.ensures.same middle (search rules) in
+    let stays = c.in_ok-adopt.ensures.same middle in
     on_ok_weaker c.replace.result (λ done. (
       done.0,
       subst (λ (d : Database). IsMigrated d done.0) stays.now done.1,
