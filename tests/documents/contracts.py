@@ -10,6 +10,8 @@ usage: tests/documents/contracts.py        needs no built program; `pages.py` ru
 - The page names each crate whose definitions public clauses cite.
 - Each name in backticks on the page is a word of the sources or definitions of crates, or one of
   ELSEWHERE.
+- Each call whose form docs/LIBRARY.md explains is made in a crate beside its own, so it is compiled
+  as a caller writes it.
 """
 import pathlib
 import re
@@ -21,6 +23,7 @@ sys.path.insert(0, str(TOP / "tools"))
 import contracting  # noqa: E402
 
 PAGE = "docs/DEFINITIONS.md"
+LIBRARY = "docs/LIBRARY.md"
 
 # functions of Ceph that no comment names, the crate server_tests, and words of commands
 ELSEWHERE = {"_remove_nonexistent_osds", "bucket_list_choose", "bucket_straw2_choose", "bucket_tree_choose"}
@@ -158,11 +161,36 @@ def name_faults():
             yield f"{PAGE}: line {text[: quoted.start()].count(chr(10)) + 1}: no source and no definition has the name {name}"
 
 
+def calls_explained():
+    """The names in the first column of LIBRARY's table of calls, each once."""
+    part = (TOP / LIBRARY).read_text().split("## Why calls have this form")[1].split("\n## ")[0]
+    rows = [it for it in part.splitlines() if it.startswith("| ")][1:]
+    return list(dict.fromkeys(name for row in rows for name in re.findall(r"`([\w:]+)`", row.split("|")[1])))
+
+
+def unmade_faults():
+    calls = {}
+    for crate in contracting.crates():
+        for _, found in contracting.calls_of(crate):
+            for call in found:
+                calls.setdefault(f"{call.owner}::{call.name}" if call.owner else call.name, set()).add(crate)
+    folders = [it for it in (TOP / "crates").iterdir() if (it / "src").is_dir()]
+    code = {it.name: "\n".join(file.read_text() for file in (it / "src").rglob("*.rt")) for it in folders}
+    explained = [it for it in calls_explained() if it in calls]
+    if len(explained) < 20:
+        yield f"{LIBRARY} explains {len(explained)} calls: is its table another?"
+    for name in explained:
+        made = re.compile(rf"\b{name.split('::')[-1]}(?:::<[^()]*>)?\(")
+        if not any(made.search(text) for crate, text in code.items() if crate not in calls[name]):
+            yield f"{LIBRARY} explains {name}, which no other crate calls"
+
+
 def faults():
     yield from example_faults()
     yield from known_faults()
     yield from cited_faults()
     yield from name_faults()
+    yield from unmade_faults()
 
 
 def main():

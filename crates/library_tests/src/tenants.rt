@@ -9,7 +9,7 @@ use std::alloc::Global;
 use std::test::Fail;
 use tenant_core::{
     Action, CallParts, Change, Command, Inventory, Made, Problem, Refusal, Reply, Routes,
-    TenantState, answer, apply, create, laws, read_request, refused,
+    TenantState, answer, apply, apply_to, create, laws, read_request, refused,
 };
 
 /// Returns the import of a map by a tenant.
@@ -53,6 +53,20 @@ pub(crate) fn first_change(alloc: Global) -> Result<Change, Fail>
     change_of(alloc, &state, command)
 }
 
+/// Answers an import by a tenant that has no receipt of it. `Err`: an allocation failed, or the call
+/// isn't read as a command.
+fn imported(alloc: Global, inventory: &Inventory) -> Result<Reply, Fail> {
+    let routes = Routes::build(alloc)?;
+    let Ok(request) = read_request(alloc, &routes, import_call()) else {
+        return Err(Fail::new("the import isn't read"));
+    };
+    let Action::Command(command) = &request.action else {
+        return Err(Fail::new("the import is no command"));
+    };
+    let (_change, reply): (Option<Change>, Reply) = apply_to(alloc, inventory, None, command)?;
+    Ok(reply)
+}
+
 /// Answers a pick by a tenant. `Err`: an allocation failed, or the call isn't read as a query.
 fn picked(alloc: Global, inventory: &Inventory) -> Result<Reply, Fail> {
     let routes = Routes::build(alloc)?;
@@ -78,6 +92,8 @@ fn tenant_core_has_its_calls(rt: HostRuntime) -> Result<(), Fail> {
     assert!(rt; matches!(&change.made, Made::Version(_)));
     let state = create(alloc)?.after(alloc, &change)?;
     assert_same(&rt, &state.inventory().newest(), &1);
+    let reply = imported(alloc, create(alloc)?.inventory())?;
+    assert_same(&rt, &reply.status, &201);
     let reply = picked(alloc, state.inventory())?;
     assert_same(&rt, &reply.status, &200);
     assert_same(&rt, &reply.body.as_str(), &"{\"item\":9}");
