@@ -92,7 +92,8 @@ fn tenant_core_has_its_calls(rt: HostRuntime) -> Result<(), Fail> {
     assert!(rt; matches!(&change.made, Made::Version(_)));
     let state = create(alloc)?.after(alloc, &change)?;
     assert_same(&rt, &state.inventory().newest(), &1);
-    let reply = imported(alloc, create(alloc)?.inventory())?;
+    let fresh = create(alloc)?;
+    let reply = imported(alloc, fresh.inventory())?;
     assert_same(&rt, &reply.status, &201);
     let reply = picked(alloc, state.inventory())?;
     assert_same(&rt, &reply.status, &200);
