@@ -14,9 +14,9 @@ _crushplan_names() {
 
 _crushplan() {
     local word=${COMP_WORDS[COMP_CWORD]} before=${COMP_WORDS[COMP_CWORD - 1]} command= folder= options kind place=0 it
-    local commands="fetch check usage compare drain fail upmap locate help"
+    local commands="fetch check usage compare drain fail upmap locate metrics help"
     local common="--help --json --csv --service --program --size --pg-num --min-size --allow-unplaced"
-    local valued=" --service --program --size --pg-num --min-size --ceph --mend --html --pool --by --each --class --group "
+    local valued=" --service --program --size --pg-num --min-size --ceph --mend --html --pool --by --each --class --group --to "
     [ "$COMP_CWORD" -lt 2 ] || command=${COMP_WORDS[1]}
     case $command in
         fetch) options="--help --ceph" ;;
@@ -27,6 +27,7 @@ _crushplan() {
         fail) options="$common --html --class --each --by --groups" ;;
         upmap) options="$common --html" ;;
         locate) options="$common --group" ;;
+        metrics) options="$common --each --to" ;;
         help) options=$commands ;;
         *) options="$commands --help --version" ;;
     esac
@@ -41,7 +42,7 @@ _crushplan() {
         --by:* | --each:*) kind=types ;;
         --class:*) kind=classes ;;
         --pool:*) kind=pools ;;
-        --program:* | --html:* | --mend:*) kind=files ;;
+        --program:* | --html:* | --mend:* | --to:*) kind=files ;;
         --service:* | --size:* | --pg-num:* | --min-size:* | --ceph:* | --group:*) kind=none ;;
         *:-*) kind=options ;;
         *)

@@ -23,6 +23,7 @@ _crushplan() {
         'fail:says what happens while they are down, and once they are out'
         'upmap:shows what a list of upmap commands does'
         'locate:shows where objects or groups lie'
+        'metrics:writes what is watched, for Prometheus'
         'help:shows the help of a command'
     )
     common=(
@@ -64,6 +65,7 @@ _crushplan() {
         fail) _arguments -C $common $drawn $changed '--each[every item of a type in turn]:type:->types' ;;
         upmap) _arguments -C $common $drawn '2:list of commands:_files' ;;
         locate) _arguments -C $common '*--group[a group, as 5.1f]:group:' '2:pool:->pools' '*:object:' ;;
+        metrics) _arguments -C $common '*--each[a type whose buckets fail in turn]:type:->types' '--to[writes into a file]:file:_files' ;;
         help) ((CURRENT == 2)) && _describe -t commands command commands ;;
     esac
     [[ -z $state ]] || _crushplan_names $state

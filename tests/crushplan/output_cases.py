@@ -12,7 +12,7 @@ import sys
 from made import ONE, STEPS, bucket, crush_dump, osd_dump, pool, rule, text_of, write
 from running import PLAN, SECONDS, equals, wants
 
-COMMANDS = ("fetch", "check", "usage", "compare", "drain", "fail", "upmap", "locate")
+COMMANDS = ("fetch", "check", "usage", "compare", "drain", "fail", "upmap", "locate", "metrics")
 
 
 def usual(folder):
@@ -164,7 +164,7 @@ def helps(runner, folder):
 
 
 # the files of the help's examples, as they are made here
-EXAMPLE_FILES = {"july": "july", "mended.txt": "mended.txt", "new.txt": "new.txt", "commands.sh": "july/list"}
+EXAMPLE_FILES = {"july": "july", "mended.txt": "mended.txt", "new.txt": "new.txt", "commands.sh": "july/list", "july.prom": "july.prom"}
 
 
 def examples(runner, folder):

@@ -40,6 +40,7 @@ COMMANDS = {
     "fail": ("says what happens while hosts, racks or devices are down, and once they are out", "crushplan fail july --each host"),
     "upmap": ("shows what a list of upmap commands does, before it is sent", "crushplan upmap july commands.sh"),
     "locate": ("shows where objects of a pool lie, or groups", "crushplan locate july photos cat.jpg dog.jpg"),
+    "metrics": ("writes what is watched of a cluster, in Prometheus' text format", "crushplan metrics july --to july.prom"),
 }
 NAMES = "a host, a rack or a device; several as osd.1-5, or by * ? [..] as 'r1h*'"
 CLASS = "of these (without names of all) the devices of a class alone, as ssd"
@@ -52,6 +53,7 @@ STATUSES = {
     "fail": "0 yes, no I/O stops and every copy has room; 1 no; 2 where what isn't computed may concern the devices, where files on room lack a part, and after an error.",
     "upmap": "0; 1 where Ceph would remove some of the items again; 2 where not all could be computed.",
     "locate": "0; 2 where it couldn't be computed.",
+    "metrics": "0; 2 where groups lie otherwise than computed, which is written too, or where nothing could be written.",
 }
 MORE = {
     "check": "By pgs.json each group is compared with where the cluster says that it lies, without it the numbers of groups in osd-df.json by device. A removed device leaves a hole in a tree bucket. crushcalc refuses such a map (code M6), and crushplan fills each hole by a device of weight 0, with which every group lies as in Ceph.",
@@ -59,6 +61,7 @@ MORE = {
     "compare": "NEW is a text as 'crushtool -d' writes it, or a dump. Of pools over straw buckets, which NEW makes straw2, pgs.json says where groups lie before. The least is what the change of weights alone asks for; where a rule takes nearly as many hosts or racks as there are, less may move.",
     "drain": "The reweights of the devices become 0, as by 'ceph osd out'. Only groups of the impact lists of crushcalc can move: that no other group does is proved, while no reweight is raised, and map and upmap items stay. A copy has no room where it has no device that is up, or where its device gets more and is then past the backfill-full ratio.",
     "locate": "An OBJECT is a name, and never a group, which --group names: 'crushplan locate july --group 5.1f', as 'ceph pg map 5.1f'. 'crushplan usage DIR --groups' lists all groups.",
+    "metrics": "Of each host, or each bucket of another type, its failure is computed, as 'crushplan fail --each' does. What isn't known has no line. With --to the file is written whole or not at all, and keeps what it has where there is no answer: crushplan_dumps_timestamp_seconds says how old that is.",
     "fail": "First what holds while the devices are down: groups with fewer copies than the pool's min_size, whose I/O stops (in stretch mode that is unknown). Then what their going out moves.",
     "upmap": "FILE has lines 'ceph osd pg-upmap-items GROUP FROM TO ..' or 'ceph osd rm-pg-upmap-items GROUP', as 'osdmaptool --upmap FILE' writes them, or 'ceph osd pg-upmap-primary GROUP DEVICE' or 'rm-pg-upmap-primary GROUP'; '-' is standard input.",
 }
@@ -212,5 +215,10 @@ def add_locate(words):
     words.add_argument("--group", action="append", default=[], metavar="GROUP", help="a group, as 5.1f, in place of a pool and objects; may stand several times")
 
 
+def add_metrics(words):
+    words.add_argument("--each", action="append", default=[], metavar="TYPE", help="a type whose buckets fail in turn: host, rack or osd; may stand several times (host)")
+    words.add_argument("--to", metavar="FILE", help="writes the text into a file, whole or not at all")
+
+
 DRAWN = ("check", "usage", "compare", "drain", "fail", "upmap")
-ADD = {"fetch": add_fetch, "check": add_check, "usage": add_usage, "compare": add_compare, "drain": add_drain, "fail": add_fail, "upmap": add_upmap, "locate": add_locate}
+ADD = {"fetch": add_fetch, "check": add_check, "usage": add_usage, "compare": add_compare, "drain": add_drain, "fail": add_fail, "upmap": add_upmap, "locate": add_locate, "metrics": add_metrics}

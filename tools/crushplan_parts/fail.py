@@ -180,17 +180,41 @@ class Each:
 
 def fail_each(plan, asked):
     """Answers what each bucket of a type would cost, the worst first."""
-    items = plan.tree.buckets_of_type(plan.tree.type_number(asked.each))
-    if not items:
+    if not plan.tree.buckets_of_type(plan.tree.type_number(asked.each)):
         raise Fault(f"no {asked.each} has devices")
-    own = of_class(plan, asked.of_class)
-    units = [(it, [d for d in own(dict.fromkeys(plan.map.below(it))) if d in plan.known]) for it in items]
-    units = [it for it in units if it[1] or asked.of_class is None]
+    units = units_of(plan, asked.each, asked.of_class)
     if not units:
         raise Fault(f"no {asked.each} has devices of the class {asked.of_class}")
+    found = failures_of(plan, asked.each, units, start_of(plan, units))
+    warn_of_room(plan)
+    warn_of_outs(plan, [plan.map.name_of(it) for it, _ in units], [device for _, devices in units for device in devices])
+    statuses, rows = [it.status for it in found], [it.said for it in found]
+    status = 1 if 1 in statuses else 2 if 2 in statuses else 0
+    own = [list(rows[0])[:-1] + ["fullest", "fullest_percent", "fullest_used"]] + [[*list(it.values())[:-1], *((it["fullest"] or {}).get(key) for key in ("name", "percent_after", "used_after"))] for it in rows]
+    has = "room" if all(it.knows_room for it in found) else "a device"
+    blocks = [each_table(asked.each, found), each_words(rows)] if plan.pools else []
+    fields, drawing = {"type": asked.each, "each": rows}, (lambda: of_each(plan, asked.each, rows)) if plan.pools else None
+    return Answer(status, each_sentence(plan, asked.each, statuses, has), fields, blocks, own, drawing)
+
+
+def units_of(plan, type_, class_=None):
+    """Returns the buckets of a type that have devices, of a class or of any, each with these."""
+    own = of_class(plan, class_)
+    items = plan.tree.buckets_of_type(plan.tree.type_number(type_))
+    units = [(it, [d for d in own(dict.fromkeys(plan.map.below(it))) if d in plan.known]) for it in items]
+    return [it for it in units if it[1] or class_ is None]
+
+
+def start_of(plan, units):
+    """Returns what is known before any of some buckets fails, with the lists of their groups."""
     start = Start(plan, sorted({device for _, devices in units for device in devices}))
     start.lists_now()
-    found, levels, progress = [], Levels(plan), Progress(len(units), asked.each + "s")
+    return start
+
+
+def failures_of(plan, type_, units, start):
+    """Returns what each of the buckets of a type does that fails, the worst first."""
+    found, levels, progress = [], Levels(plan), Progress(len(units), type_ + "s")
     try:
         progress.at(0)
         for part in parts_of(start, units):
@@ -200,16 +224,7 @@ def fail_each(plan, asked):
             found += [it for own in plan.side_by_side(*works) for it in own]
     finally:
         progress.end()
-    warn_of_room(plan)
-    warn_of_outs(plan, [plan.map.name_of(it) for it in items], [device for _, devices in units for device in devices])
-    found.sort(key=Each.order)
-    statuses, rows = [it.status for it in found], [it.said for it in found]
-    status = 1 if 1 in statuses else 2 if 2 in statuses else 0
-    own = [list(rows[0])[:-1] + ["fullest", "fullest_percent", "fullest_used"]] + [[*list(it.values())[:-1], *((it["fullest"] or {}).get(key) for key in ("name", "percent_after", "used_after"))] for it in rows]
-    has = "room" if all(it.knows_room for it in found) else "a device"
-    blocks = [each_table(asked.each, found), each_words(rows)] if plan.pools else []
-    fields, drawing = {"type": asked.each, "each": rows}, (lambda: of_each(plan, asked.each, rows)) if plan.pools else None
-    return Answer(status, each_sentence(plan, asked.each, statuses, has), fields, blocks, own, drawing)
+    return sorted(found, key=Each.order)
 
 
 def each_of(plan, start, levels, units, progress):

@@ -5,6 +5,15 @@ class Fault(Exception):
     """Says what is wrong, with its file, line, field or name."""
 
 
+class NoAnswer(Fault):
+    """Says why crushcalc, a program or a server, gave no answer: what was asked stays unknown."""
+
+    FIRST = "unknown: "
+
+    def __init__(self, why):
+        super().__init__(self.FIRST + why)
+
+
 def nearest(name, names):
     """Returns the end of a sentence about a name that isn't there: the name most like it."""
     import difflib

@@ -17,11 +17,12 @@ NARROW = 20  # of a last column whose words go on in further lines
 class Answer:
     """What a command found: its status, one sentence, the fields of its JSON, blocks of text for
     people, and the rows of its CSV with their heads first. The fields may be a function that
-    returns them; `drawing` is one that returns what is drawn of it (drawing.py), or None."""
+    returns them; `drawing` is one that returns what is drawn of it (drawing.py), or None; `plain`
+    one that returns the whole text for people in the place of sentence and blocks, or None."""
 
     def __init__(self, status, sentence, fields, blocks, rows, drawing=None):
         self.status, self.sentence, self.fields = status, sentence, fields
-        self.blocks, self.rows, self.drawing = blocks, rows, drawing
+        self.blocks, self.rows, self.drawing, self.plain = blocks, rows, drawing, None
 
 
 class Table:
@@ -155,6 +156,8 @@ def written(answer, command, form, plan):
         return json.dumps({**head, **fields, **tail}) + "\n"
     if form == "csv":
         return csv_text(answer.rows)
+    if answer.plain:
+        return answer.plain()
     return people_text(answer, notes, warnings)
 
 

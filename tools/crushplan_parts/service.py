@@ -7,12 +7,14 @@ import re
 import subprocess
 import threading
 
-from .faults import Fault
+from .faults import NoAnswer
 from .settled import Placement
 from .waiting import waiting
 
 MOST_JOBS = 4  # programs side by side
 JOBS = min(MOST_JOBS, len(os.sched_getaffinity(0)) if hasattr(os, "sched_getaffinity") else os.cpu_count() or 1)
+if os.environ.get("CRUSHPLAN_JOBS", "").isdigit():  # as a manager asks for
+    JOBS = max(1, min(JOBS, int(os.environ["CRUSHPLAN_JOBS"])))
 SECONDS = 600  # as long as one run may take
 MOST_READ = 2_000  # replies that are read at once
 UNPROVED = "unproved"  # a word of the version of a program that was built without proofs
@@ -70,11 +72,11 @@ def read(status, body, where):
     try:
         said = json.loads(body)
     except ValueError:
-        raise Fault(f"{where} answers {body[:60]!r}, which isn't crushcalc's") from None
+        raise NoAnswer(f"{where} answers {body[:60]!r}, which isn't crushcalc's") from None
     if status in (500, 501, 503) or not isinstance(said, dict):
-        raise Fault(f"{where} answers {status} {said}")
+        raise NoAnswer(f"{where} answers {status} {said}")
     if said.get("error") in ("no_path", "method"):
-        raise Fault(f"{where} doesn't know a request that crushplan needs: it is older than crushplan")
+        raise NoAnswer(f"{where} doesn't know a request that crushplan needs: it is older than crushplan")
     return status, said
 
 
@@ -95,8 +97,8 @@ def placement(request, group, reply, where):
 
 
 def refused(where, method, path, status, said):
-    """Returns the Fault of a request that a cluster's own tenant doesn't take."""
-    return Fault(f"{where} refuses {method} {path} of its own cluster: {status} {said}")
+    """Returns the NoAnswer of a request that a cluster's own tenant doesn't take."""
+    return NoAnswer(f"{where} refuses {method} {path} of its own cluster: {status} {said}")
 
 
 def placements_in(lines):
@@ -131,13 +133,13 @@ class Script:
         try:
             ran = subprocess.run([self.program, "script"], input="\n".join(lines).encode() + b"\n", stdout=subprocess.PIPE, stderr=subprocess.PIPE, timeout=SECONDS)
         except OSError as error:
-            raise Fault(f"{self.where} can't be run: {error.strerror or error}") from None
+            raise NoAnswer(f"{self.where} can't be run: {error.strerror or error}") from None
         except subprocess.TimeoutExpired:
-            raise Fault(f"{self.where} hasn't answered within {SECONDS} seconds") from None
+            raise NoAnswer(f"{self.where} hasn't answered within {SECONDS} seconds") from None
         replies = ran.stdout.splitlines()
         if ran.returncode != 0 or len(replies) != len(lines):
             said = ran.stderr.decode(errors="replace").strip().splitlines()[:1]
-            raise Fault(f"{self.where} isn't a crushcalc that plays scripts, or it failed (status {ran.returncode}{': ' + said[0] if said else ''}; its version: {self.version()})")
+            raise NoAnswer(f"{self.where} isn't a crushcalc that plays scripts, or it failed (status {ran.returncode}{': ' + said[0] if said else ''}; its version: {self.version()})")
         return self.read(requests, replies)
 
     def read(self, requests, lines):
@@ -184,7 +186,7 @@ def found_program(given, beside):
     if given:
         path = pathlib.Path(given)
         if not path.is_file() or not os.access(path, os.X_OK):
-            raise Fault(f"--program {given}: there is no program there")
+            raise NoAnswer(f"--program {given}: there is no program there")
         return path.resolve()
     for path in beside:
         if path.is_file() and os.access(path, os.X_OK):
@@ -192,7 +194,7 @@ def found_program(given, beside):
     path = next((it for it in map(lambda folder: os.path.join(folder, "crushcalc"), os.get_exec_path()) if os.path.isfile(it) and os.access(it, os.X_OK)), None)
     if path:
         return pathlib.Path(path)
-    raise Fault("crushcalc isn't there: neither beside crushplan nor on PATH. Build it by 'make', or unproved by 'make try', install it by 'make install', or name it by --program FILE, or a server by --service URL.")
+    raise NoAnswer("crushcalc isn't there: neither beside crushplan nor on PATH. Build it by 'make', or unproved by 'make try', install it by 'make install', or name it by --program FILE, or a server by --service URL.")
 
 
 def side_by_side(client, works):
