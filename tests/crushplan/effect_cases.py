@@ -22,17 +22,39 @@ def told(own):
     """The maps in the parts of dumped.py."""
     crush = own.crush
     return {
-        "devices": {str(id_): [name, crush.classes.get(id_)] for id_, name in crush.devices.items() if not is_placeholder(id_, name) or id_ in crush.classes},
-        "buckets": {str(it.id): [it.name, it.type, it.alg, [[item or 0, weight] for item, weight in it.items]] for it in crush.buckets.values()},
+        "devices": {
+            str(id_): [name, crush.classes.get(id_)]
+            for id_, name in crush.devices.items()
+            if not is_placeholder(id_, name) or id_ in crush.classes
+        },
+        "buckets": {
+            str(it.id): [it.name, it.type, it.alg, [[item or 0, weight] for item, weight in it.items]]
+            for it in crush.buckets.values()
+        },
         "rules": {str(it.id): [it.name, TYPES[it.kind], [step(of) for of in it.steps]] for it in crush.rules.values()},
         "tunables": {**crush.tunables, "allowed_bucket_algs": crush.algs},
-        "sets": {str(key): {str(id_): [[as_float(weight) for weight in row] for row in rows] for id_, rows in it.rows.items()} for key, it in crush.weight_sets.items()},
+        "sets": {
+            str(key): {
+                str(id_): [[as_float(weight) for weight in row] for row in rows] for id_, rows in it.rows.items()
+            }
+            for key, it in crush.weight_sets.items()
+        },
         "osds": {str(id_): [it.up, it.reweight, it.affinity, it.old, it.destroyed] for id_, it in own.osds.items()},
-        "pools": {str(it.id): [it.name, it.size, it.min_size, it.rule, it.pg_num, it.pgp_num] for it in own.pools.values()},
-        "pairs": {it.group_name(group): [list(pair) for pair in pairs] for it in own.pools.values() for group, pairs in own.pairs.get(it.id, {}).items()},
-        "lists": {it.group_name(group): list(ids) for it in own.pools.values() for group, ids in own.lists.get(it.id, {}).items()},
+        "pools": {
+            str(it.id): [it.name, it.size, it.min_size, it.rule, it.pg_num, it.pgp_num] for it in own.pools.values()
+        },
+        "pairs": {
+            it.group_name(group): [list(pair) for pair in pairs]
+            for it in own.pools.values()
+            for group, pairs in own.pairs.get(it.id, {}).items()
+        },
+        "lists": {
+            it.group_name(group): list(ids)
+            for it in own.pools.values()
+            for group, ids in own.lists.get(it.id, {}).items()
+        },
         "flags": {"": sorted(own.flags)},
-    }  # fmt: skip
+    }
 
 
 def step(it):
@@ -57,13 +79,26 @@ def given(line, own, there):
             from crushplan_parts.cluster import Pool
 
             kind = "erasure" if "erasure" in line else "replicated"
-            own.pools[int(id_)] = Pool(id=int(id_), kind=kind, hashpspool=True, profile="default" if kind == "erasure" else "", **dict(zip(fields, values)))
+            own.pools[int(id_)] = Pool(
+                id=int(id_),
+                kind=kind,
+                hashpspool=True,
+                profile="default" if kind == "erasure" else "",
+                **dict(zip(fields, values)),
+            )
             if kind == "erasure":
                 rule = there["rules"][str(values[3])]
                 take = next(it for it in rule[2] if it[0] == "take")
                 from crushplan_parts.crush_map import Rule
 
-                steps = [tuple(it[0].split("_")) + tuple(it[1:]) if it[0].startswith("choose") else (*it, None) if it is take else tuple(it) for it in rule[2]]
+                steps = [
+                    tuple(it[0].split("_")) + tuple(it[1:])
+                    if it[0].startswith("choose")
+                    else (*it, None)
+                    if it is take
+                    else tuple(it)
+                    for it in rule[2]
+                ]
                 own.crush.rules[values[3]] = Rule(values[3], rule[0], "erasure", steps, (3, 4))
     return own
 
@@ -97,7 +132,11 @@ def case(name):
                 own = commands_osd.await_clean(own)[0]
             here = told(own)
             for part in PARTS:
-                odd = {key: (here[part].get(key), there[part].get(key)) for key in {*here[part], *there[part]} if here[part].get(key) != there[part].get(key)}
+                odd = {
+                    key: (here[part].get(key), there[part].get(key))
+                    for key in {*here[part], *there[part]}
+                    if here[part].get(key) != there[part].get(key)
+                }
                 wants(not odd, f"{where}: {part}: here and there {odd}")
             count += 1
         wants(count > 10, f"only {count} lines")

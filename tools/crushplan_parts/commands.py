@@ -9,23 +9,47 @@ from .wrapper import Refused, Unforetold
 ID = re.compile(r"(?:osd\.)?(\d{1,9})")
 NAME = re.compile(r"[A-Za-z0-9_.-]+")
 # options of the command 'ceph' that a value follows, and words that mean that one is sure
-VALUED = ("-c", "--conf", "-k", "--keyring", "-n", "--name", "--id", "--user", "--cluster", "--connect-timeout", "-f", "--format", "-m")
+VALUED = (
+    "-c",
+    "--conf",
+    "-k",
+    "--keyring",
+    "-n",
+    "--name",
+    "--id",
+    "--user",
+    "--cluster",
+    "--connect-timeout",
+    "-f",
+    "--format",
+    "-m",
+)
 SURE = ("--yes-i-really-mean-it", "--force", "--yes-i-really-really-mean-it")
 DEPENDS = "what it does depends on how the cluster is loaded, which no dump says"
 # commands that are known, and why what they do isn't foretold
 UNFORETOLD = {
-    ("osd", "reweight-by-utilization"): DEPENDS, ("osd", "reweight-by-pg"): DEPENDS, ("osd", "test-reweight-by-utilization"): DEPENDS,
-    ("osd", "crush", "weight-set", "ls"): "it shows something, and changes nothing", ("balancer",): DEPENDS,
+    ("osd", "reweight-by-utilization"): DEPENDS,
+    ("osd", "reweight-by-pg"): DEPENDS,
+    ("osd", "test-reweight-by-utilization"): DEPENDS,
+    ("osd", "crush", "weight-set", "ls"): "it shows something, and changes nothing",
+    ("balancer",): DEPENDS,
     ("osd", "reweightn"): "it takes many reweights as one text: write 'ceph osd reweight' lines",
     ("osd", "crush", "tree"): "it shows something, and changes nothing",
     ("osd", "pool", "create"): "which id a new pool gets isn't known, and by it its groups are placed",
-    ("osd", "pool", "rm"): "pools that end aren't foretold", ("osd", "pool", "delete"): "pools that end aren't foretold",
-    ("osd", "erasure-code-profile"): "profiles aren't foretold: what 'crush rule create-erasure' makes of one that is there is",
+    ("osd", "pool", "rm"): "pools that end aren't foretold",
+    ("osd", "pool", "delete"): "pools that end aren't foretold",
+    (
+        "osd",
+        "erasure-code-profile",
+    ): "profiles aren't foretold: what 'crush rule create-erasure' makes of one that is there is",
     ("osd", "crush", "class"): "classes without devices aren't foretold: 'crush set-device-class' makes one",
     ("osd", "crush", "rule", "rename"): "names of rules place nothing",
-    ("osd", "tier"): "cache tiers aren't foretold", ("mgr",): "what the manager does isn't foretold", ("config",): "options aren't foretold",
-    ("orch",): "what the orchestrator does, and when, isn't foretold", ("pg",): "what single groups do isn't foretold",
-}  # fmt: skip
+    ("osd", "tier"): "cache tiers aren't foretold",
+    ("mgr",): "what the manager does isn't foretold",
+    ("config",): "options aren't foretold",
+    ("orch",): "what the orchestrator does, and when, isn't foretold",
+    ("pg",): "what single groups do isn't foretold",
+}
 
 
 class Words:
@@ -50,7 +74,13 @@ def table():
     """Returns the function of each command, by the words that name it."""
     from . import commands_crush, commands_osd, commands_pool, commands_rule, commands_set
 
-    return {**commands_osd.COMMANDS, **commands_crush.COMMANDS, **commands_rule.COMMANDS, **commands_set.COMMANDS, **commands_pool.COMMANDS}
+    return {
+        **commands_osd.COMMANDS,
+        **commands_crush.COMMANDS,
+        **commands_rule.COMMANDS,
+        **commands_set.COMMANDS,
+        **commands_pool.COMMANDS,
+    }
 
 
 def read_words(words, where):
@@ -77,7 +107,9 @@ def read_words(words, where):
     name = next((tuple(found[:size]) for size in range(len(found), 0, -1) if tuple(found[:size]) in known), None)
     if name is None:
         said = " ".join(found)
-        raise Fault(f"{where}: there is no command 'ceph {said[:60]}' here{nearest(said, [' '.join(it) for it in known])}")
+        raise Fault(
+            f"{where}: there is no command 'ceph {said[:60]}' here{nearest(said, [' '.join(it) for it in known])}"
+        )
     odd = [it for it in options if it not in SURE and name not in UNFORETOLD]
     if odd:
         raise Fault(f"{where}: the option {odd[0]} of 'ceph {' '.join(name)}' isn't known here")
@@ -88,7 +120,9 @@ def read_systemctl(words, where):
     """Returns the start or the stop of OSDs' own processes."""
     units = [re.fullmatch(r"ceph-osd@(\d{1,9})(?:\.service)?", it) for it in words[1:]]
     if words[:1] not in (["stop"], ["start"]) or not units or None in units:
-        raise Fault(f"{where}: 'systemctl {' '.join(words)[:50]}' isn't 'systemctl stop ceph-osd@N' or 'systemctl start ceph-osd@N'")
+        raise Fault(
+            f"{where}: 'systemctl {' '.join(words)[:50]}' isn't 'systemctl stop ceph-osd@N', nor 'systemctl start ..'"
+        )
     return Words(("systemctl", words[0]), [it[1] for it in units], [])
 
 
@@ -127,7 +161,10 @@ def number_in(text, least=None, most=None):
     except ValueError:
         raise Refused("EINVAL", f"Invalid command: {text} isn't a number") from None
     if found != found or least is not None and found < least or most is not None and found > most:
-        raise Refused("EINVAL", f"Invalid command: {text} isn't in the range {'' if least is None else least}..{'' if most is None else most}")
+        raise Refused(
+            "EINVAL",
+            f"Invalid command: {text} isn't in the range {least}..{'' if most is None else most}",
+        )
     return found
 
 

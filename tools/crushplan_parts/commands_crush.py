@@ -11,11 +11,22 @@ from .wrapper import MOST_WEIGHT, Refused, Unforetold, Wrapper, location_text
 # what 'crush tunables' sets: local tries, fallback tries, total tries, descend_once, vary_r, stable,
 # straw_calc_version (None keeps it), allowed kinds of buckets
 PROFILES = {
-    "legacy": (2, 5, 19, 0, 0, 0, 0, 22), "argonaut": (2, 5, 19, 0, 0, 0, None, 22), "bobtail": (0, 0, 50, 1, 0, 0, None, 22),
-    "firefly": (0, 0, 50, 1, 1, 0, 1, 22), "hammer": (0, 0, 50, 1, 1, 0, 1, 54), "jewel": (0, 0, 50, 1, 1, 1, 1, 54),
-}  # fmt: skip
+    "legacy": (2, 5, 19, 0, 0, 0, 0, 22),
+    "argonaut": (2, 5, 19, 0, 0, 0, None, 22),
+    "bobtail": (0, 0, 50, 1, 0, 0, None, 22),
+    "firefly": (0, 0, 50, 1, 1, 0, 1, 22),
+    "hammer": (0, 0, 50, 1, 1, 0, 1, 54),
+    "jewel": (0, 0, 50, 1, 1, 1, 1, 54),
+}
 PROFILES["optimal"] = PROFILES["default"] = PROFILES["jewel"]
-TUNABLES = ("choose_local_tries", "choose_local_fallback_tries", "choose_total_tries", "chooseleaf_descend_once", "chooseleaf_vary_r", "chooseleaf_stable")
+TUNABLES = (
+    "choose_local_tries",
+    "choose_local_fallback_tries",
+    "choose_total_tries",
+    "chooseleaf_descend_once",
+    "chooseleaf_vary_r",
+    "chooseleaf_stable",
+)
 
 
 def weight_in(text):
@@ -61,7 +72,11 @@ def reweight(maps, words):
 
 def uniform_text(wrapper, items):
     """Says where the weight of a device becomes that of others too."""
-    own = [it.name for it in wrapper.buckets() if it.alg == "uniform" and not it.shadow and {item for item, _ in it.items} & set(items)]
+    own = [
+        it.name
+        for it in wrapper.buckets()
+        if it.alg == "uniform" and not it.shadow and {item for item, _ in it.items} & set(items)
+    ]
     return [f"all items of {some(own)} get the weight, since a uniform bucket has one"] if own else []
 
 
@@ -90,7 +105,11 @@ def add_or_set(maps, words):
         raise Refused("ENOENT", f"osd.{id_} does not exist. Create it before updating the crush map")
     is_set = words.name[-1] == "set"
     if is_set and not wrapper.stands(id_) and wrapper.id_of(f"osd.{id_}") is None:
-        raise Refused("ENOENT", f"unable to set item id {id_} name 'osd.{id_}' weight {weight} at location {location_text(location)}: does not exist")
+        raise Refused(
+            "ENOENT",
+            f"unable to set item id {id_} name 'osd.{id_}' weight {weight} at location {location_text(location)}: "
+                "does not exist",
+        )
     if is_set or wrapper.is_at(id_, location) is not None:
         wrapper.set_item(id_, value, f"osd.{id_}", location)
         return []
@@ -180,7 +199,10 @@ def add_bucket(maps, words):
 def swap_bucket(maps, words):
     first, second = words.take(2, 2, "SOURCE DEST")
     wrapper, crush = Wrapper(maps.crush), maps.crush
-    ids = [item_in(wrapper, it, f"source item {it} does not exist" if it == first else f"dest item {it} does not exist") for it in (first, second)]
+    ids = [
+        item_in(wrapper, it, f"source item {it} does not exist" if it == first else f"dest item {it} does not exist")
+        for it in (first, second)
+    ]
     if min(ids) == max(ids):
         raise Unforetold("the monitor ends: a bucket is swapped with itself")
     if max(ids) >= 0:
@@ -190,7 +212,9 @@ def swap_bucket(maps, words):
         if wrapper.parent(a.id) is not None:
             raise Refused("EPERM", f"{first} has a parent; pass --yes-i-really-mean-it to proceed anyway")
         if a.alg != b.alg:
-            raise Refused("EPERM", f"{first} alg {a.alg} != {second} alg {b.alg}; pass --yes-i-really-mean-it to proceed anyway")
+            raise Refused(
+                "EPERM", f"{first} alg {a.alg} != {second} alg {b.alg}; pass --yes-i-really-mean-it to proceed anyway"
+            )
     for one, other in ((a, b), (b, a)):
         if any(item == other.id for item, _ in one.items):
             raise Refused("EINVAL", "(22) Invalid argument: one is the other's parent")
@@ -236,7 +260,11 @@ def set_class(maps, words):
     for id_ in found:
         has = maps.crush.classes.get(id_)
         if has is not None and has != class_:
-            raise Refused("EBUSY", f"osd.{id_} has already bound to class '{has}', can not reset class to '{class_}'; use 'ceph osd crush rm-device-class <id>' to remove old class first")
+            raise Refused(
+                "EBUSY",
+                f"osd.{id_} has already bound to class '{has}', can not reset class to '{class_}'; "
+                "use 'ceph osd crush rm-device-class <id>' to remove old class first",
+            )
     if not NAME.fullmatch(class_):
         raise Refused("EINVAL", f"Invalid command: invalid chars in {class_}")
     changed = [id_ for id_ in found if maps.crush.classes.get(id_) != class_]
@@ -267,7 +295,9 @@ def rm_class(maps, words):
 def check_tree(maps):
     own = [it.name for it in maps.crush.buckets.values() if it.alg == "tree" and not it.shadow]
     if own:
-        raise Unforetold(f"classes in a map with tree buckets ({some(own, 2)}) damage the monitor's memory, which ends later")
+        raise Unforetold(
+            f"classes in a map with tree buckets ({some(own, 2)}) damage the monitor's memory, which ends later"
+        )
 
 
 def devices_in(maps, ids):
@@ -311,11 +341,23 @@ def set_crush_map(maps, words):
 
 
 COMMANDS = {
-    ("osd", "crush", "reweight"): reweight, ("osd", "crush", "reweight-subtree"): reweight_subtree, ("osd", "crush", "reweight-all"): reweight_all,
-    ("osd", "crush", "add"): add_or_set, ("osd", "crush", "set"): add_or_set, ("osd", "crush", "create-or-move"): create_or_move,
-    ("osd", "crush", "move"): move, ("osd", "crush", "link"): link, ("osd", "crush", "unlink"): taken_out, ("osd", "crush", "rm"): taken_out,
-    ("osd", "crush", "remove"): taken_out, ("osd", "crush", "add-bucket"): add_bucket, ("osd", "crush", "swap-bucket"): swap_bucket,
-    ("osd", "crush", "rename-bucket"): rename_bucket, ("osd", "crush", "set-all-straw-buckets-to-straw2"): all_straw2,
-    ("osd", "crush", "set-device-class"): set_class, ("osd", "crush", "rm-device-class"): rm_class, ("osd", "crush", "tunables"): tunables,
+    ("osd", "crush", "reweight"): reweight,
+    ("osd", "crush", "reweight-subtree"): reweight_subtree,
+    ("osd", "crush", "reweight-all"): reweight_all,
+    ("osd", "crush", "add"): add_or_set,
+    ("osd", "crush", "set"): add_or_set,
+    ("osd", "crush", "create-or-move"): create_or_move,
+    ("osd", "crush", "move"): move,
+    ("osd", "crush", "link"): link,
+    ("osd", "crush", "unlink"): taken_out,
+    ("osd", "crush", "rm"): taken_out,
+    ("osd", "crush", "remove"): taken_out,
+    ("osd", "crush", "add-bucket"): add_bucket,
+    ("osd", "crush", "swap-bucket"): swap_bucket,
+    ("osd", "crush", "rename-bucket"): rename_bucket,
+    ("osd", "crush", "set-all-straw-buckets-to-straw2"): all_straw2,
+    ("osd", "crush", "set-device-class"): set_class,
+    ("osd", "crush", "rm-device-class"): rm_class,
+    ("osd", "crush", "tunables"): tunables,
     ("osd", "setcrushmap"): set_crush_map,
-}  # fmt: skip
+}

@@ -6,9 +6,26 @@ from .wrapper import Refused, Wrapper
 
 ALL = ("any", "all", "*")
 FLAGS = (
-    "full", "pause", "noup", "nodown", "noout", "noin", "nobackfill", "norebalance", "norecover", "noscrub", "nodeep-scrub", "notieragent",
-    "nosnaptrim", "sortbitwise", "recovery_deletes", "require_jewel_osds", "require_kraken_osds", "pglog_hardlimit", "noautoscale",
-)  # fmt: skip
+    "full",
+    "pause",
+    "noup",
+    "nodown",
+    "noout",
+    "noin",
+    "nobackfill",
+    "norebalance",
+    "norecover",
+    "noscrub",
+    "nodeep-scrub",
+    "notieragent",
+    "nosnaptrim",
+    "sortbitwise",
+    "recovery_deletes",
+    "require_jewel_osds",
+    "require_kraken_osds",
+    "pglog_hardlimit",
+    "noautoscale",
+)
 
 
 def each_osd(maps, words, act, unknown=None):
@@ -68,7 +85,10 @@ def down(maps, words):
 
     remarks = each_osd(maps, words, act)
     if back:
-        remarks.append(f"{'it is' if len(back) == 1 else 'they are'} up again in a second: 'ceph osd set noup' before it, or stop the process")
+        remarks.append(
+            f"{'it is' if len(back) == 1 else 'they are'} up again in a second: 'ceph osd set noup' before it, or stop "
+            "the process"
+        )
     return remarks
 
 
@@ -100,7 +120,11 @@ def sure_and_down(maps, words):
     (text,) = words.take(1, 1, "ID --yes-i-really-mean-it")
     id_ = osd_in(text)
     if not words.is_sure():
-        raise Refused("EPERM", "Are you SURE?  Did you verify with 'ceph osd safe-to-destroy'?  This will PERMANENTLY DESTROY data. Pass --yes-i-really-mean-it if you really do.")
+        raise Refused(
+            "EPERM",
+            "Are you SURE?  Did you verify with 'ceph osd safe-to-destroy'?  This will mean real, permanent data loss. "
+            "Pass --yes-i-really-mean-it if you really do.",
+        )
     if id_ in maps.osds and maps.osds[id_].up:
         raise Refused("EBUSY", f"osd.{id_} is not `down`.")
     return id_ if id_ in maps.osds else None
@@ -209,7 +233,18 @@ def go_out(maps, ids):
 
 
 COMMANDS = {
-    ("osd", "out"): out, ("osd", "in"): in_, ("osd", "down"): down, ("osd", "rm"): remove, ("osd", "destroy"): destroy, ("osd", "purge"): purge,
-    ("osd", "reweight"): reweight, ("osd", "primary-affinity"): primary_affinity, ("osd", "create"): create, ("osd", "new"): create,
-    ("osd", "set"): flag, ("osd", "unset"): flag, ("systemctl", "stop"): process, ("systemctl", "start"): process,
-}  # fmt: skip
+    ("osd", "out"): out,
+    ("osd", "in"): in_,
+    ("osd", "down"): down,
+    ("osd", "rm"): remove,
+    ("osd", "destroy"): destroy,
+    ("osd", "purge"): purge,
+    ("osd", "reweight"): reweight,
+    ("osd", "primary-affinity"): primary_affinity,
+    ("osd", "create"): create,
+    ("osd", "new"): create,
+    ("osd", "set"): flag,
+    ("osd", "unset"): flag,
+    ("systemctl", "stop"): process,
+    ("systemctl", "start"): process,
+}

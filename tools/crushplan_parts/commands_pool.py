@@ -133,7 +133,9 @@ def set_list(maps, words):
     pool, group = group_in(maps, text)
     ids = list(dict.fromkeys(osds_in(maps, rest)))
     if not pool.min_size <= len(ids) <= pool.size:
-        raise Refused("EINVAL", f"num of osds ({len(ids)}) isn't between min_size ({pool.min_size}) and size ({pool.size})")
+        raise Refused(
+            "EINVAL", f"num of osds ({len(ids)}) isn't between min_size ({pool.min_size}) and size ({pool.size})"
+        )
     maps.lists.setdefault(pool.id, {})[group] = ids
     return []
 
@@ -151,7 +153,9 @@ def set_primary(maps, words):
 
 def check_release(maps):
     if maps.release in ("luminous", "mimic", "nautilus", "octopus", "pacific", "quincy"):
-        raise Refused("EINVAL", f"invalid command: it is of release 18 (reef) on, and require_osd_release is {maps.release}")
+        raise Refused(
+            "EINVAL", f"invalid command: it is of release 18 (reef) on, and require_osd_release is {maps.release}"
+        )
 
 
 def dropped(name):
@@ -167,7 +171,11 @@ def dropped(name):
 
 
 COMMANDS = {
-    ("osd", "pool", "set"): set_, ("osd", "pg-upmap-items"): set_pairs, ("osd", "rm-pg-upmap-items"): dropped("pairs"),
-    ("osd", "pg-upmap"): set_list, ("osd", "rm-pg-upmap"): dropped("lists"), ("osd", "pg-upmap-primary"): set_primary,
+    ("osd", "pool", "set"): set_,
+    ("osd", "pg-upmap-items"): set_pairs,
+    ("osd", "rm-pg-upmap-items"): dropped("pairs"),
+    ("osd", "pg-upmap"): set_list,
+    ("osd", "rm-pg-upmap"): dropped("lists"),
+    ("osd", "pg-upmap-primary"): set_primary,
     ("osd", "rm-pg-upmap-primary"): dropped("primaries"),
-}  # fmt: skip
+}

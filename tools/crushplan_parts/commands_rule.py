@@ -24,7 +24,11 @@ def create_erasure(maps, words):
     name, profile = words.take(1, 2, "NAME [PROFILE]")
     own = maps.profiles.get(profile or "default")
     if own is None:
-        raise Refused("EINVAL", "cannot determine the erasure code plugin because there is no 'plugin' entry in the erasure_code_profile {}")
+        raise Refused(
+            "EINVAL",
+            "cannot determine the erasure code plugin because there is no 'plugin' entry in the "
+            "erasure_code_profile {}",
+        )
     root, type_ = own.get("crush-root", "default"), own.get("crush-failure-domain", "host")
     size = int(own.get("k", 2)) + int(own.get("m", 1))
     return add_rule(maps, name, root, type_, own.get("crush-device-class") or None, "indep", "erasure", (3, size))
@@ -52,7 +56,13 @@ def add_rule(maps, name, root, type_, class_, mode, kind, sizes=None):
     choose = ("choose" if number == 0 else "chooseleaf", mode, 0, type_)
     tries = TRIES if mode == "indep" else ()
     known = any(it.sizes for it in crush.rules.values())
-    crush.rules[id_] = Rule(id_, name, kind, [*tries, ("take", item, None), choose, ("emit",)], (sizes or SIZES[KINDS[kind]]) if known else None)
+    crush.rules[id_] = Rule(
+        id_,
+        name,
+        kind,
+        [*tries, ("take", item, None), choose, ("emit",)],
+        (sizes or SIZES[KINDS[kind]]) if known else None,
+    )
     return []
 
 
@@ -68,6 +78,8 @@ def remove(maps, words):
 
 
 COMMANDS = {
-    ("osd", "crush", "rule", "create-simple"): create_simple, ("osd", "crush", "rule", "create-replicated"): create_replicated,
-    ("osd", "crush", "rule", "create-erasure"): create_erasure, ("osd", "crush", "rule", "rm"): remove,
-}  # fmt: skip
+    ("osd", "crush", "rule", "create-simple"): create_simple,
+    ("osd", "crush", "rule", "create-replicated"): create_replicated,
+    ("osd", "crush", "rule", "create-erasure"): create_erasure,
+    ("osd", "crush", "rule", "rm"): remove,
+}

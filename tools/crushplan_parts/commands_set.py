@@ -59,7 +59,11 @@ def reweighted(maps, key, name, weights):
     """Gives an item its weights in a set, and the buckets above the sums of the set."""
     wrapper, own = Wrapper(maps.crush), maps.crush.weight_sets.get(key)
     if own is None:
-        words = "no backward-compatible weight-set exists; create it with 'ceph osd crush weight-set create-compat'" if key == ALL else "no weight-set for the pool"
+        words = (
+            "no backward-compatible weight-set exists; create it with 'ceph osd crush weight-set create-compat'"
+            if key == ALL
+            else "no weight-set for the pool"
+        )
         raise Refused("ENOENT", words)
     item = wrapper.id_of(name)
     if item is None:
@@ -80,7 +84,10 @@ def pool_in(maps, name):
 
 
 COMMANDS = {
-    ("osd", "crush", "weight-set", "create"): create, ("osd", "crush", "weight-set", "create-compat"): create_compat,
-    ("osd", "crush", "weight-set", "rm"): remove, ("osd", "crush", "weight-set", "rm-compat"): remove_compat,
-    ("osd", "crush", "weight-set", "reweight"): reweight, ("osd", "crush", "weight-set", "reweight-compat"): reweight_compat,
-}  # fmt: skip
+    ("osd", "crush", "weight-set", "create"): create,
+    ("osd", "crush", "weight-set", "create-compat"): create_compat,
+    ("osd", "crush", "weight-set", "rm"): remove,
+    ("osd", "crush", "weight-set", "rm-compat"): remove_compat,
+    ("osd", "crush", "weight-set", "reweight"): reweight,
+    ("osd", "crush", "weight-set", "reweight-compat"): reweight_compat,
+}

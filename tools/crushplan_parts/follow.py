@@ -114,7 +114,9 @@ class Follower:
         if late and "noout" not in found.flags:
             found = go_out(found, late)
             names = ", ".join(f"osd.{it}" for it in late)
-            remarks.append(f"{names} {'is' if len(late) == 1 else 'are'} down for long, and {'goes' if len(late) == 1 else 'go'} out (mon_osd_down_out_interval)")
+            remarks.append(
+                f"{names}, down for long, {'goes' if len(late) == 1 else 'go'} out (mon_osd_down_out_interval)"
+            )
         if not remarks:
             return maps, [], []
         found, removed = self.cleaned(found)
@@ -154,16 +156,26 @@ def sign_of(plan, pool):
     if rule is None:
         return (pool.rule,)
     buckets = sorted(reached_buckets(plan.map, pool.rule))
-    own = [(it, plan.map.buckets[it].alg, plan.map.buckets[it].type, tuple(plan.map.buckets[it].items)) for it in buckets]
+    own = [
+        (it, plan.map.buckets[it].alg, plan.map.buckets[it].type, tuple(plan.map.buckets[it].items)) for it in buckets
+    ]
     key = key_of(plan.map, pool.id)
     rows = plan.map.weight_sets[key].rows if key is not None else {}
     devices = sorted(plan.map.reached(rule) | plan.cluster.states.keys())
-    return hashed((
-        (pool.kind, pool.size, pool.rule, pool.pg_num, pool.pgp_num, pool.hashpspool), rule.steps, own, [(it, rows.get(it)) for it in buckets],
-        sorted(plan.map.tunables.items()), [(it, plan.state(it).reweight, plan.state(it).up) for it in devices],
-        sorted(plan.cluster.pairs.get(pool.id, {}).items()), sorted(plan.cluster.lists.get(pool.id, {}).items()),
-        sorted(plan.cluster.primaries.get(pool.id, {}).items()), sorted(plan.cluster.affinity.items()),
-    ))  # fmt: skip
+    return hashed(
+        (
+            (pool.kind, pool.size, pool.rule, pool.pg_num, pool.pgp_num, pool.hashpspool),
+            rule.steps,
+            own,
+            [(it, rows.get(it)) for it in buckets],
+            sorted(plan.map.tunables.items()),
+            [(it, plan.state(it).reweight, plan.state(it).up) for it in devices],
+            sorted(plan.cluster.pairs.get(pool.id, {}).items()),
+            sorted(plan.cluster.lists.get(pool.id, {}).items()),
+            sorted(plan.cluster.primaries.get(pool.id, {}).items()),
+            sorted(plan.cluster.affinity.items()),
+        )
+    )
 
 
 def hashed(value):

@@ -78,9 +78,15 @@ class Maps:
 def maps_of(cluster):
     """Returns what the monitors of a cluster hold, by its files."""
     found = Maps(
-        cluster.map, {id_: Osd(it.reweight, it.up, 0, cluster.affinity.get(id_, ONE), it.up) for id_, it in cluster.states.items()},
-        cluster.pools, cluster.pairs, cluster.lists, cluster.primaries, set(it for it in cluster.flags if it), {},
-    ).copied()  # fmt: skip
+        cluster.map,
+        {id_: Osd(it.reweight, it.up, 0, cluster.affinity.get(id_, ONE), it.up) for id_, it in cluster.states.items()},
+        cluster.pools,
+        cluster.pairs,
+        cluster.lists,
+        cluster.primaries,
+        set(it for it in cluster.flags if it),
+        {},
+    ).copied()
     if cluster.described:
         found.osds = {id_: Osd() for id_ in cluster.map.devices}
     else:
@@ -109,6 +115,16 @@ def cluster_of(maps, cluster):
     crush = copy.copy(maps.crush)
     crush.kept = {}
     return dataclasses.replace(
-        cluster, map=crush, pools=maps.pools, states=maps.states(), pairs=maps.pairs, lists=maps.lists, primaries=maps.primaries,
-        affinity=affinity, temporary={}, warnings=[], flags=tuple(sorted(maps.flags)), groups=None,
-    )  # fmt: skip
+        cluster,
+        map=crush,
+        pools=maps.pools,
+        states=maps.states(),
+        pairs=maps.pairs,
+        lists=maps.lists,
+        primaries=maps.primaries,
+        affinity=affinity,
+        temporary={},
+        warnings=[],
+        flags=tuple(sorted(maps.flags)),
+        groups=None,
+    )

@@ -16,14 +16,12 @@ class Ledger:
     where the files have them. `start` is the first moment."""
 
     def __init__(self, start):
-        self.start, self.rooms, self.cluster = start, start.plan.cluster.rooms, start.plan.cluster
-        self.units, self.counts = {}, {id_: counts_of(it, start.lists.get(id_, {})) for id_, it in start.plan.cluster.pools.items()}
+        self.start, self.cluster = start, start.plan.cluster
+        self.rooms, self.looks = self.cluster.rooms, looks_at_room(self.cluster)
+        self.units, self.counts = {}, {}
         for id_, pool in start.plan.pools.items():
-            (over, under), _ = pool.parts()
-            whole = sum(sum(copies_in(it.up) for it in start.lists[id_].values()) for _ in (0,))
-            known = pool.bytes is not None and whole
-            self.units[id_] = fractions.Fraction(pool.bytes * over, whole * under) if known else fractions.Fraction(0) if pool.bytes == 0 else None
-        self.looks = looks_at_room(self.cluster)
+            self.counts[id_] = counts_of(pool, start.lists[id_])
+            self.units[id_] = bytes_of_copy(pool, start.lists[id_])
 
     def bytes_of(self, counts):
         """Returns the bytes of copies, counted by pool and device, by device; None where a pool's
@@ -40,7 +38,8 @@ class Ledger:
     def used(self, counts, more=None):
         """Returns the used part of the room of each device that has a size, once it has such
         counts of copies, and more copies on the way."""
-        own, first, more = self.bytes_of(counts), self.bytes_of(self.counts), self.bytes_of(more or {})
+        at_start = {id_: own for id_, own in self.counts.items() if id_ in counts}
+        own, first, more = self.bytes_of(counts), self.bytes_of(at_start), self.bytes_of(more or {})
         if own is None or first is None or more is None:
             return {}
         return {it: room.used_after(own[it] - first[it] + more[it]) for it, room in self.rooms.items() if room.size > 0}
@@ -49,11 +48,25 @@ class Ledger:
         """Returns what the files don't say of how full devices get that gain copies, or None."""
         if not self.looks or not gained:
             return None
-        silent = sorted(self.cluster.pools[it].name if it in self.cluster.pools else str(it) for it in pools if self.units.get(it) is None)
+        silent = sorted(
+            self.cluster.pools[it].name if it in self.cluster.pools else str(it)
+            for it in pools
+            if self.units.get(it) is None
+        )
         if silent:
             return f"df.json doesn't say what pool {silent[0]} takes"
         lacking = sorted(it for it in gained if it not in self.rooms or self.rooms[it].size <= 0)
         return f"osd-df.json doesn't say how full osd.{lacking[0]} gets" if lacking else None
+
+
+def bytes_of_copy(pool, placements):
+    """Returns the bytes of a copy of a group with as many objects as most, or None where they
+    aren't known."""
+    (over, under), _ = pool.parts()
+    copies = sum(copies_in(it.up) for it in placements.values())
+    if not pool.bytes or not copies:
+        return fractions.Fraction(0) if pool.bytes == 0 else None
+    return fractions.Fraction(pool.bytes * over, copies * under)
 
 
 def counts_of(pool, placements):
@@ -82,8 +95,9 @@ class Passage:
     def __init__(self, ledger, before, after, maps):
         self.ledger, self.before, self.after, self.maps = ledger, before, after, maps
         self.moves, self.written, self.read = [], {}, {}
-        self.unknown = [it for it in after.signs if after.signs[it] != before.signs.get(it) and not (it in before.lists and it in after.lists)]
-        self.pools = [after.plan.cluster.pools[it] for it in after.lists if it in before.lists]
+        known = before.lists.keys() & after.lists.keys()
+        self.pools = [after.plan.cluster.pools[it] for it in sorted(known)]
+        self.unknown = [it for it, sign in after.signs.items() if sign != before.signs.get(it) and it not in known]
         self.stopped, self.lost, self.missing, self.missing_before, self.short = [], [], 0, 0, []
         for pool in self.pools:
             self.take_pool(pool, before.lists[pool.id], after.lists[pool.id])
@@ -105,12 +119,9 @@ class Passage:
             count = written_anew(pool, old.up, new.up)
             if count or set(old.up) != set(new.up) or pool.kind == "erasure":
                 self.moves.append((pool, group, old, new, count))
-            for place, device in enumerate(new.up):
-                if device is None or (device in old.up if pool.kind != "erasure" else old.up[place : place + 1] == [device]):
-                    continue
+            for place, device in written_to(pool, old.up, new.up):
                 written[device] += weight
-                for source in sources(pool, place, new, alive, least):
-                    read[source] += weight
+                read.update(dict.fromkeys(sources(pool, place, new, alive, least), weight))
         self.written[pool.id], self.read[pool.id] = written, read
 
     def take_state(self, pool, group, old, new, alive, least):
@@ -143,9 +154,8 @@ class Passage:
         for pool in self.pools:
             if self.after.signs[pool.id] == self.before.signs[pool.id]:
                 continue
-            old, new = ((shares_of(it.plan, it.plan.cluster.pools[pool.id]), sum(copies_in(of.up) for of in it.lists[pool.id].values())) for it in (self.before, self.after))
-            grown = (fractions.Fraction(new[0].of(it) * new[1], new[0].whole) - fractions.Fraction(old[0].of(it) * old[1], old[0].whole) for it in old[0].devices() | new[0].devices())
-            found += sum(it for it in grown if it > 0)
+            old, new = (expected_of(it, pool.id) for it in (self.before, self.after))
+            found += sum(of - old.get(it, 0) for it, of in new.items() if of > old.get(it, 0))
         return found
 
     def hours(self, rate):
@@ -190,7 +200,11 @@ class Passage:
         for pool in self.pools:
             shares = shares_of(self.after.plan, self.after.plan.cluster.pools[pool.id])
             expected.add(shares, sum(copies_in(it.up) for it in self.after.lists[pool.id].values()))
-        found = {it: (count, percent(count, expected.of(it))) for it, count in entries.items() if count} if self.pools else {}
+        found = (
+            {it: (count, percent(count, expected.of(it))) for it, count in entries.items() if count}
+            if self.pools
+            else {}
+        )
         if not found:
             return None
         device = max(found, key=lambda it: (found[it][1] or 0, found[it][0], -it))
@@ -202,13 +216,21 @@ class Passage:
         """Yields what makes an answer no (1) or unknown (2), in words, the worst first. `waits` is
         whether a 'wait' follows."""
         if self.lost:
-            yield 1, f"{groups_text(self.lost)} {'loses' if len(self.lost) == 1 else 'lose'} data: too few copies are on OSDs that still exist"
+            yield 1, f"{groups_text(self.lost)} {verb(self.lost, 'lose')} data: too few copies are on OSDs that exist"
         if self.stopped:
-            yield 1, f"{groups_text(self.stopped)} {'has' if len(self.stopped) == 1 else 'have'} fewer copies than min_size, and the I/O of {'it' if len(self.stopped) == 1 else 'them'} stops"
+            has = "has" if len(self.stopped) == 1 else "have"
+            yield 1, f"{groups_text(self.stopped)} {has} fewer copies than min_size, which stops I/O"
         if self.missing:
-            as_before = " (as many as before)" if self.missing == self.missing_before else f" ({self.missing_before:,} before)" if self.missing_before else ""
+            as_before = (
+                " (as many as before)"
+                if self.missing == self.missing_before
+                else f" ({self.missing_before:,} before)"
+                if self.missing_before
+                else ""
+            )
             never = ", and the 'wait' doesn't end" if waits else ""
-            yield 1, f"{self.missing:,} {'copy has' if self.missing == 1 else 'copies have'} no device{as_before}{never}"
+            has = "copy has" if self.missing == 1 else "copies have"
+            yield 1, f"{self.missing:,} {has} no device{as_before}{never}"
         full = self.past(self.used_after(), "backfillfull_ratio")
         if full:
             yield 1, f"{names_text(full)} {'gets' if len(full) == 1 else 'get'} past the backfill-full ratio"
@@ -228,10 +250,29 @@ class Passage:
         way = self.past(self.used_on_the_way(), "backfillfull_ratio")
         full = self.past(self.used_after(), "backfillfull_ratio")
         if way and not full:
-            yield f"on the way {names_text(way)} may be past the backfill-full ratio: Ceph then holds some moves until others are over"
+            yield (
+                f"on the way {names_text(way)} may be past the backfill-full ratio: Ceph then holds some moves until "
+                "others are over"
+            )
         near = self.past(self.used_after(), "nearfull_ratio")
         if near and not full:
             yield f"{names_text(near)} {'gets' if len(near) == 1 else 'get'} past near-full (a health warning)"
+
+
+def expected_of(moment, pool):
+    """Returns the copies of a pool that each device should have by its share."""
+    shares = shares_of(moment.plan, moment.plan.cluster.pools[pool])
+    copies = sum(copies_in(it.up) for it in moment.lists[pool].values())
+    return {it: fractions.Fraction(shares.of(it) * copies, shares.whole) for it in shares.devices()}
+
+
+def written_to(pool, old, new):
+    """Yields the places of a list with the devices that get a new copy there: in an erasure pool
+    each place has another part of the data."""
+    for place, device in enumerate(new):
+        has = old[place : place + 1] == [device] if pool.kind == "erasure" else device in old
+        if device is not None and not has:
+            yield place, device
 
 
 def sources(pool, place, new, alive, least):
@@ -248,7 +289,16 @@ def sources(pool, place, new, alive, least):
 
 
 def groups_text(groups):
-    return groups[0] if len(groups) == 1 else f"{len(groups):,} groups ({', '.join(groups[:3])}{', ..' if len(groups) > 3 else ''})"
+    return (
+        groups[0]
+        if len(groups) == 1
+        else f"{len(groups):,} groups ({', '.join(groups[:3])}{', ..' if len(groups) > 3 else ''})"
+    )
+
+
+def verb(many, word):
+    """Returns a verb of one or several."""
+    return f"{word}s" if len(many) == 1 else word
 
 
 def names_text(devices):

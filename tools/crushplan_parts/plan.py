@@ -8,8 +8,18 @@ from .faults import counted
 from .follow import Follower
 from .output import Answer, Table, sized
 from .passage import Ledger, Passage, entries_of
-from .plan_text import Sums, after_table, deciding, lines_table, orders_table, rows_of, said_of, steps_table, summary_table
-from .reports import warn_of_flags, warn_of_room
+from .plan_text import (
+    Sums,
+    after_table,
+    deciding,
+    lines_table,
+    orders_table,
+    rows_of,
+    said_of,
+    steps_table,
+    summary_table,
+)
+from .reports import COPY, warn_of_flags, warn_of_room
 from .run import Usage
 from .runbook import read_runbook
 from .summary import ratio_said
@@ -40,7 +50,9 @@ class Done:
             if own and it.line.words.name[-1] in ("pg-upmap-items", "pg-upmap"):
                 yield 1, f"{at}: Ceph removes what it sets at once, {own[0]}"
         if self.passage is not None:
-            yield from ((status, f"{self.where()}: {text}") for status, text in self.passage.faults(self.step.wait is not None))
+            yield from (
+                (status, f"{self.where()}: {text}") for status, text in self.passage.faults(self.step.wait is not None)
+            )
 
     def remarks(self):
         return [] if self.passage is None else list(self.passage.remarks())
@@ -122,11 +134,18 @@ def answer(plan_, ledger, steps, done, end, asked):
     sentence = sentence_of(status, first, done, steps, sums)
     decides = first[2] if first else None
     blocks = [
-        summary_table(sums), steps_table(done, asked.rate), lines_table(done),
-        deciding(decides) if decides else None, after_table(ledger, (decides or done[-1]).passage, decides),
+        summary_table(sums),
+        steps_table(done, asked.rate),
+        lines_table(done),
+        deciding(decides) if decides else None,
+        after_table(ledger, (decides or done[-1]).passage, decides),
         orders_table(done, asked.rate) if asked.orders else None,
-    ]  # fmt: skip
-    fields = lambda: {**said_of(done, sums, asked), "decides": decides and {"step": decides.number, "lines": [it.number for it in decides.step.lines], "why": first[1]}}
+    ]
+    fields = lambda: {
+        **said_of(done, sums, asked),
+        "decides": decides
+        and {"step": decides.number, "lines": [it.number for it in decides.step.lines], "why": first[1]},
+    }
     return Answer(status, sentence, fields, blocks, rows_of(done, asked.rate), lambda: drawn(plan_, whole))
 
 
@@ -134,7 +153,8 @@ def sentence_of(status, first, done, steps, sums):
     """Returns the answer in one sentence."""
     cut = done and done[-1].events and done[-1].events[-1].ends()
     behind = "; nothing behind it is foretold" if cut and (first is None or first[2] is done[-1]) else ""
-    moved = f"{counted(sums.moved, 'group')} {'moves' if sums.moved == 1 else 'move'}, and {counted(sums.copies, 'copy', 'copies')} {'is' if sums.copies == 1 else 'are'} written anew"
+    written = f"{counted(sums.copies, *COPY)} {'is' if sums.copies == 1 else 'are'} written anew"
+    moved = f"{counted(sums.moved, 'group')} {'moves' if sums.moved == 1 else 'move'}, {written}"
     if status == 0:
         room = "every copy has room" if sums.knows_room else "every copy has a device"
         return f"yes: in {counted(len(done), 'step')} {moved}, and {room}."

@@ -9,7 +9,22 @@ from .shares import hundredths, rounded
 from .summary import ratio_said, shares_of, whole
 
 MOST_DEVICES = 12  # of which it is said how full they are, the fullest first
-HEADS = ["step", "first_line", "last_line", "moved", "copies", "bytes", "least", "on_the_way", "used_on_the_way", "fullest", "used", "missing_copies", "below_min_size", "hours"]
+HEADS = [
+    "step",
+    "first_line",
+    "last_line",
+    "moved",
+    "copies",
+    "bytes",
+    "least",
+    "on_the_way",
+    "used_on_the_way",
+    "fullest",
+    "used",
+    "missing_copies",
+    "below_min_size",
+    "hours",
+]
 
 
 class Sums:
@@ -52,7 +67,7 @@ def copies_text(copies, bytes_):
 
 
 def hours_text(hours):
-    return None if hours is None else rounded(hours.numerator, hours.denominator, 1)
+    return None if hours is None else rounded(hours.numerator, hours.denominator, 2)
 
 
 def least_text(passage):
@@ -74,17 +89,33 @@ def summary_table(sums):
     ]
     if sums.rate:
         hours = hours_text(sums.hours)
-        rows.append((f"hours at least, at {float(sums.rate):g} MB/s a device", "unknown" if hours is None else f"{hours:,}"))
+        rows.append(
+            (f"hours at least, at {float(sums.rate):g} MB/s a device", "unknown" if hours is None else f"{hours:,}")
+        )
     return Table(("", ""), rows)
 
 
 def steps_table(done, rate):
-    heads = ["step", "lines", "move", "copies", "bytes", "least", "on the way", "afterwards", "no device", "stops"] + (["hours"] if rate else [])
+    heads = ["step", "lines", "move", "copies", "bytes", "least", "on the way", "afterwards", "no device", "stops"] + (
+        ["hours"] if rate else []
+    )
     rows = []
     for it in done:
         own, plan = it.passage, it.passage.after.plan
-        row = [it.number, it.step.where().split(" ")[1], len(own.moves), own.copies, sized(own.bytes()), least_text(own)]
-        row += [level_text(plan, own.fullest(own.used_on_the_way(), own.written)), level_text(plan, own.fullest(own.used_after())), own.missing, len(own.stopped)]
+        row = [
+            it.number,
+            it.step.where().split(" ")[1],
+            len(own.moves),
+            own.copies,
+            sized(own.bytes()),
+            least_text(own),
+        ]
+        row += [
+            level_text(plan, own.fullest(own.used_on_the_way(), own.written)),
+            level_text(plan, own.fullest(own.used_after())),
+            own.missing,
+            len(own.stopped),
+        ]
         rows.append(row + ([hours_text(own.hours(rate))] if rate else []))
     return Table(heads, rows, "By step, until all is clean:")
 
@@ -149,7 +180,15 @@ def orders_of(it):
     for name, own in both:
         bytes_ = [of.bytes() for of in own]
         way = highest(own, lambda of: of.fullest(of.used_on_the_way(), of.written))
-        found.append((name, own, sum(of.copies for of in own), None if None in bytes_ else sum(bytes_, fractions.Fraction(0)), way))
+        found.append(
+            (
+                name,
+                own,
+                sum(of.copies for of in own),
+                None if None in bytes_ else sum(bytes_, fractions.Fraction(0)),
+                way,
+            )
+        )
     return found
 
 
@@ -177,12 +216,28 @@ def orders_table(done, rate):
         found = orders_of(it)
         for name, passages, copies, bytes_, way in found:
             stops = len({of for passage in passages for of in passage.stopped})
-            row = [it.number, name, sum(len(of.moves) for of in passages), copies, sized(bytes_), level_text(it.passage.after.plan, way), stops]
+            row = [
+                it.number,
+                name,
+                sum(len(of.moves) for of in passages),
+                copies,
+                sized(bytes_),
+                level_text(it.passage.after.plan, way),
+                stops,
+            ]
             hours = [of.hours(rate) for of in passages] if rate else []
-            rows.append(row + ([hours_text(None if None in hours else sum(hours, fractions.Fraction(0)))] if rate else []))
+            rows.append(
+                row + ([hours_text(None if None in hours else sum(hours, fractions.Fraction(0)))] if rate else [])
+            )
         least, lowest = judged(found)
-        lines.append(f"Step {it.number}: {least or 'either'} moves least; {lowest or 'either'} stays lowest on the way.")
-    table = Table(["step", "order", "move", "copies", "bytes", "on the way", "stops"] + (["hours"] if rate else []), rows, "Orders of the lines between two waits:")
+        lines.append(
+            f"Step {it.number}: {least or 'either'} moves least; {lowest or 'either'} stays lowest on the way."
+        )
+    table = Table(
+        ["step", "order", "move", "copies", "bytes", "on the way", "stops"] + (["hours"] if rate else []),
+        rows,
+        "Orders of the lines between two waits:",
+    )
     return Joined(table, lines)
 
 
@@ -210,42 +265,82 @@ def level_said(level):
 def passage_said(own, rate):
     least, hours = own.least(), own.hours(rate) if rate else None
     return {
-        "moved": len(own.moves), "copies": own.copies, "bytes": whole(own.bytes()), "least": rounded(least.numerator, least.denominator, 2),
-        "on_the_way": level_said(own.fullest(own.used_on_the_way(), own.written)), "fullest": level_said(own.fullest(own.used_after())),
-        "missing_copies": own.missing, "short": own.short, "below_min_size": own.stopped, "lost": own.lost,
+        "moved": len(own.moves),
+        "copies": own.copies,
+        "bytes": whole(own.bytes()),
+        "least": rounded(least.numerator, least.denominator, 2),
+        "on_the_way": level_said(own.fullest(own.used_on_the_way(), own.written)),
+        "fullest": level_said(own.fullest(own.used_after())),
+        "missing_copies": own.missing,
+        "short": own.short,
+        "below_min_size": own.stopped,
+        "lost": own.lost,
         "hours": None if hours is None else rounded(hours.numerator, hours.denominator, 2),
-    }  # fmt: skip
+    }
 
 
 def event_said(it):
     refused = it.refused and {"code": it.refused.code, "why": it.refused.why}
-    return {"line": it.line.number, "command": it.line.text, "remarks": it.remarks, "removed": it.removed, "refused": refused, "unforetold": it.unknown}
+    return {
+        "line": it.line.number,
+        "command": it.line.text,
+        "remarks": it.remarks,
+        "removed": it.removed,
+        "refused": refused,
+        "unforetold": it.unknown,
+    }
 
 
 def said_of(done, sums, asked):
     """Returns the fields of the JSON."""
     steps = []
     for it in done:
-        own = {"step": it.number, "lines": [of.number for of in it.step.lines], "wait": it.step.wait, **passage_said(it.passage, asked.rate)}
+        own = {
+            "step": it.number,
+            "lines": [of.number for of in it.step.lines],
+            "wait": it.step.wait,
+            **passage_said(it.passage, asked.rate),
+        }
         own["events"] = [event_said(of) for of in it.events]
         own["by_itself"], own["faults"] = it.by_itself, [text for _, text in it.faults()]
         if asked.groups:
-            own["groups"] = [{"pool": pool.id, "group": group, "id": pool.group_name(group), "before": old.up, "after": new.up, "copies": count} for pool, group, old, new, count in it.passage.moves]
+            own["groups"] = [
+                {
+                    "pool": pool.id,
+                    "group": group,
+                    "id": pool.group_name(group),
+                    "before": old.up,
+                    "after": new.up,
+                    "copies": count,
+                }
+                for pool, group, old, new, count in it.passage.moves
+            ]
         if asked.orders:
             own["orders"] = order_said(it, asked.rate)
         steps.append(own)
     hours = sums.hours and rounded(sums.hours.numerator, sums.hours.denominator, 2)
     return {
-        "steps": steps, "moved": sums.moved, "copies": sums.copies, "bytes": whole(sums.bytes), "twice": [f"{pool}.{group:x}" for pool, group in sums.twice],
-        "below_min_size": sums.stopped, "on_the_way": level_said(sums.way), "hours": hours, "one_step": passage_said(sums.one_step, asked.rate),
-    }  # fmt: skip
+        "steps": steps,
+        "moved": sums.moved,
+        "copies": sums.copies,
+        "bytes": whole(sums.bytes),
+        "twice": [f"{pool}.{group:x}" for pool, group in sums.twice],
+        "below_min_size": sums.stopped,
+        "on_the_way": level_said(sums.way),
+        "hours": hours,
+        "one_step": passage_said(sums.one_step, asked.rate),
+    }
 
 
 def order_said(it, rate):
     if not it.singles:
         return None
     least, lowest = judged(orders_of(it))
-    return {"moves_least": least, "stays_lowest": lowest, "one_by_one": [{"line": line.number, **passage_said(own, rate)} for line, own in it.singles]}
+    return {
+        "moves_least": least,
+        "stays_lowest": lowest,
+        "one_by_one": [{"line": line.number, **passage_said(own, rate)} for line, own in it.singles],
+    }
 
 
 def rows_of(done, rate):
@@ -255,6 +350,18 @@ def rows_of(done, rate):
         own = passage_said(it.passage, rate)
         way, full = (own[key] or {} for key in ("on_the_way", "fullest"))
         yield [
-            it.number, it.step.lines[0].number, it.step.lines[-1].number, own["moved"], own["copies"], own["bytes"], own["least"], way.get("device"), way.get("used"),
-            full.get("device"), full.get("used"), own["missing_copies"], len(own["below_min_size"]), own["hours"],
-        ]  # fmt: skip
+            it.number,
+            it.step.lines[0].number,
+            it.step.lines[-1].number,
+            own["moved"],
+            own["copies"],
+            own["bytes"],
+            own["least"],
+            way.get("device"),
+            way.get("used"),
+            full.get("device"),
+            full.get("used"),
+            own["missing_copies"],
+            len(own["below_min_size"]),
+            own["hours"],
+        ]

@@ -10,9 +10,13 @@ UNIFORM, LIST, TREE, STRAW, STRAW2 = 1, 2, 3, 4, 5
 ALGS = {UNIFORM: "uniform", LIST: "list", TREE: "tree", STRAW: "straw", STRAW2: "straw2"}
 CHOOSES = {2: ("choose", "firstn"), 3: ("choose", "indep"), 6: ("chooseleaf", "firstn"), 7: ("chooseleaf", "indep")}
 SETS = {
-    8: "set_choose_tries", 9: "set_chooseleaf_tries", 10: "set_choose_local_tries", 11: "set_choose_local_fallback_tries",
-    12: "set_chooseleaf_vary_r", 13: "set_chooseleaf_stable",
-}  # fmt: skip
+    8: "set_choose_tries",
+    9: "set_chooseleaf_tries",
+    10: "set_choose_local_tries",
+    11: "set_choose_local_fallback_tries",
+    12: "set_chooseleaf_vary_r",
+    13: "set_chooseleaf_stable",
+}
 
 
 class Bytes:
@@ -54,7 +58,10 @@ def read_compiled(path):
     try:
         return read_map(Bytes(data), path.name)
     except (struct.error, ValueError, KeyError, OverflowError):
-        raise Refused("EINVAL", f"Failed to parse crushmap: {path.name} isn't one that 'crushtool -c' or 'ceph osd getcrushmap' wrote") from None
+        raise Refused(
+            "EINVAL",
+            f"Failed to parse crushmap: {path.name} isn't one that 'crushtool -c' or 'ceph osd getcrushmap' wrote",
+        ) from None
 
 
 def read_map(data, name):
@@ -75,10 +82,19 @@ def read_map(data, name):
         shadows = data.table(lambda: data.table(lambda: data.take("i")))
         sets = dict(data.each(data.take("I"), lambda: read_set(data)))
     found = CrushMap(
-        name, False, tunables, {id_: it for id_, it in names.items() if id_ >= 0}, {id_: class_names[it] for id_, it in classes.items() if id_ >= 0},
-        types, {it.id: it for it in own}, {id_: rule_of(id_, rule_names, it, types) for id_, it in steps}, sets, algs,
-        [class_names[it] for it in sorted(class_names)], {(bucket, class_names[it]): id_ for bucket, of in shadows.items() for it, id_ in of.items()},
-    )  # fmt: skip
+        name,
+        False,
+        tunables,
+        {id_: it for id_, it in names.items() if id_ >= 0},
+        {id_: class_names[it] for id_, it in classes.items() if id_ >= 0},
+        types,
+        {it.id: it for it in own},
+        {id_: rule_of(id_, rule_names, it, types) for id_, it in steps},
+        sets,
+        algs,
+        [class_names[it] for it in sorted(class_names)],
+        {(bucket, class_names[it]): id_ for bucket, of in shadows.items() for it, id_ in of.items()},
+    )
     for (_, class_), id_ in found.shadow_ids.items():
         found.buckets[id_].shadow = class_
     return found

@@ -73,7 +73,9 @@ def commands_in(line, where):
             if it in ENDS:
                 found.append([])
             elif it in ODD or "$" in it or "`" in it:
-                raise Fault(f"{where}: {it!r} isn't foretold: write the commands as they are once the shell has read them")
+                raise Fault(
+                    f"{where}: {it!r} isn't foretold: write the commands as they are once the shell has read them"
+                )
             else:
                 found[-1].append(it)
     except ValueError as error:

@@ -48,7 +48,9 @@ def copied(map_):
 def class_order(map_):
     """Returns the classes of a map in the order in which they were made, as far as the ids of
     shadows show it: no dump has it."""
-    first = {class_: max(id_ for (_, own), id_ in map_.shadows().items() if own == class_) for _, class_ in map_.shadows()}
+    first = {
+        class_: max(id_ for (_, own), id_ in map_.shadows().items() if own == class_) for _, class_ in map_.shadows()
+    }
     others = sorted(set(map_.classes.values()) - first.keys())
     return [*sorted(first, key=first.get, reverse=True), *others]
 
@@ -69,7 +71,9 @@ class Wrapper:
         """Returns the item of a name, or None. A device has one while the map knows it."""
         found = next((it.id for it in self.map.buckets.values() if it.name == name), None)
         if found is None:
-            found = next((id_ for id_, own in self.map.devices.items() if own == name and not is_placeholder(id_, own)), None)
+            found = next(
+                (id_ for id_, own in self.map.devices.items() if own == name and not is_placeholder(id_, own)), None
+            )
         return found
 
     def holders(self, item):
@@ -97,7 +101,14 @@ class Wrapper:
     def lowest(self, location):
         """Returns the type and the name of a location's lowest word, or None: the words above
         count only where it is new."""
-        return next(((number, location[name]) for number, name in sorted(self.map.types.items()) if number and name in location), None)
+        return next(
+            (
+                (number, location[name])
+                for number, name in sorted(self.map.types.items())
+                if number and name in location
+            ),
+            None,
+        )
 
     def is_at(self, item, location):
         """Returns the bucket that a location's lowest word names where it holds the item itself,
@@ -249,7 +260,10 @@ class Wrapper:
     def put_in(self, bucket, item, weight):
         """Puts an item at the end of a bucket, and of its rows (bucket_add_item)."""
         if bucket.alg == "uniform" and bucket.items and bucket.items[0][1] != weight:
-            raise Unforetold(f"the monitor ends: {bucket.name} is a uniform bucket whose items have weight, and Ceph puts a new one in with 0")
+            raise Unforetold(
+                f"the monitor ends: {bucket.name} is a uniform bucket whose items have weight, and Ceph puts a new "
+                "one in with 0"
+            )
         bucket.items.append((item, weight))
         for own in self.map.weight_sets.values():
             for row in own.rows.get(bucket.id, ()):
@@ -266,8 +280,14 @@ class Wrapper:
             del bucket.items[place]
             return
         bucket.items[place] = (None, 0)
-        if bucket.items and not any(weight for _, weight in bucket.items) and any(it is not None for it, _ in bucket.items):
-            raise Unforetold(f"the monitor's map is damaged: {bucket.name} is a tree bucket that keeps items of weight 0 alone")
+        if (
+            bucket.items
+            and not any(weight for _, weight in bucket.items)
+            and any(it is not None for it, _ in bucket.items)
+        ):
+            raise Unforetold(
+                f"the monitor's map is damaged: {bucket.name} is a tree bucket that keeps items of weight 0 alone"
+            )
         while bucket.items and bucket.items[-1][1] == 0:
             bucket.items.pop()
 
@@ -292,9 +312,14 @@ class Wrapper:
             if bucket is None or bucket.type != number:
                 raise Refused("EINVAL", f"(22) Invalid argument: {location[type_]} isn't of the type {type_}")
             if below in self.map.buckets and at in self.map.buckets_below(below):
-                raise Refused("ELOOP", f"(40) Too many levels of symbolic links: {location[type_]} is below {self.map.name_of(below)}")
+                raise Refused(
+                    "ELOOP",
+                    f"(40) Too many levels of symbolic links: {location[type_]} is below {self.map.name_of(below)}",
+                )
             if place_of(bucket, below) is not None:
-                raise Refused("EINVAL", f"(22) Invalid argument: {location[type_]} has {self.map.name_of(below)} already")
+                raise Refused(
+                    "EINVAL", f"(22) Invalid argument: {location[type_]} has {self.map.name_of(below)} already"
+                )
             self.put_in(bucket, below, 0)
             found = True
             break
@@ -460,7 +485,9 @@ class Wrapper:
             items.append((item, weight))
             places.append(place)
         own = old.get((id_, class_)) or self.free_shadow(used)
-        self.map.buckets[own] = Bucket(own, f"{original.name}~{class_}", original.type, original.alg, original.hash, items, class_)
+        self.map.buckets[own] = Bucket(
+            own, f"{original.name}~{class_}", original.type, original.alg, original.hash, items, class_
+        )
         self.map.shadow_ids[id_, class_] = own
         for key, it in self.map.weight_sets.items():
             self.clone_row(it, id_, own, items, places, sums[key])
@@ -481,7 +508,12 @@ class Wrapper:
             return
         found, last = [], len(rows) - 1
         for at, row in enumerate(rows):
-            found.append([row[place] if item >= 0 else sums.get(item, [0] * len(rows))[at] for (item, _), place in zip(items, places)])
+            found.append(
+                [
+                    row[place] if item >= 0 else sums.get(item, [0] * len(rows))[at]
+                    for (item, _), place in zip(items, places)
+                ]
+            )
         own.rows[id_], sums[id_] = found, [0] * last + [sum(found[last])]
 
 
