@@ -14,9 +14,9 @@ _crushplan_names() {
 
 _crushplan() {
     local word=${COMP_WORDS[COMP_CWORD]} before=${COMP_WORDS[COMP_CWORD - 1]} command= folder= options kind place=0 it
-    local commands="fetch check usage compare drain fail upmap locate metrics help"
+    local commands="fetch check usage compare drain fail plan upmap locate metrics help"
     local common="--help --json --csv --service --program --size --pg-num --min-size --allow-unplaced"
-    local valued=" --service --program --size --pg-num --min-size --ceph --mend --html --pool --by --each --class --group --to "
+    local valued=" --service --program --size --pg-num --min-size --ceph --mend --html --pool --by --each --class --group --rate --to "
     [ "$COMP_CWORD" -lt 2 ] || command=${COMP_WORDS[1]}
     case $command in
         fetch) options="--help --ceph" ;;
@@ -25,6 +25,7 @@ _crushplan() {
         compare) options="$common --html --groups" ;;
         drain) options="$common --html --class --by --groups" ;;
         fail) options="$common --html --class --each --by --groups" ;;
+        plan) options="$common --html --rate --orders --groups" ;;
         upmap) options="$common --html" ;;
         locate) options="$common --group" ;;
         metrics) options="$common --each --to" ;;
@@ -43,7 +44,7 @@ _crushplan() {
         --class:*) kind=classes ;;
         --pool:*) kind=pools ;;
         --program:* | --html:* | --mend:* | --to:*) kind=files ;;
-        --service:* | --size:* | --pg-num:* | --min-size:* | --ceph:* | --group:*) kind=none ;;
+        --service:* | --size:* | --pg-num:* | --min-size:* | --ceph:* | --group:* | --rate:*) kind=none ;;
         *:-*) kind=options ;;
         *)
             case $command:$place in
@@ -52,7 +53,7 @@ _crushplan() {
                 *:0) kind=folders ;;
                 drain:* | fail:*) kind=items ;;
                 locate:1) kind=pools ;;
-                compare:1 | upmap:1) kind=files ;;
+                compare:1 | plan:1 | upmap:1) kind=files ;;
                 *) kind=none ;;
             esac
             ;;

@@ -1,5 +1,6 @@
 """The program's arguments and its help."""
 import argparse
+import fractions
 
 from .faults import Fault, nearest
 
@@ -38,6 +39,7 @@ COMMANDS = {
     "compare": ("shows what moves where the map becomes that of NEW", "crushplan compare july new.txt --groups"),
     "drain": ("says whether hosts, racks or devices can be drained, and what that moves", "crushplan drain july host3 osd.17"),
     "fail": ("says what happens while hosts, racks or devices are down, and once they are out", "crushplan fail july --each host"),
+    "plan": ("says what the lines of a runbook do, step by step, before they are typed", "crushplan plan july runbook --rate 80"),
     "upmap": ("shows what a list of upmap commands does, before it is sent", "crushplan upmap july commands.sh"),
     "locate": ("shows where objects of a pool lie, or groups", "crushplan locate july photos cat.jpg dog.jpg"),
     "metrics": ("writes what is watched of a cluster, in Prometheus' text format", "crushplan metrics july --to july.prom"),
@@ -51,6 +53,7 @@ STATUSES = {
     "compare": "0; 1 where copies have no device afterwards, or a device whose weight stays gets more and is then past the backfill-full ratio; 2 where not all could be computed.",
     "drain": "0 yes, every copy has room; 1 no; 2 where what isn't computed may concern the devices, where files on room lack a part, and after an error.",
     "fail": "0 yes, no I/O stops and every copy has room; 1 no; 2 where what isn't computed may concern the devices, where files on room lack a part, and after an error.",
+    "plan": "0 yes, every line is taken and every copy has room; 1 no, with the step that decides; 2 where a line isn't foretold, or what isn't computed may concern it.",
     "upmap": "0; 1 where Ceph would remove some of the items again; 2 where not all could be computed.",
     "locate": "0; 2 where it couldn't be computed.",
     "metrics": "0; 2 where groups lie otherwise than computed, which is written too, or where nothing could be written.",
@@ -63,6 +66,7 @@ MORE = {
     "locate": "An OBJECT is a name, and never a group, which --group names: 'crushplan locate july --group 5.1f', as 'ceph pg map 5.1f'. 'crushplan usage DIR --groups' lists all groups.",
     "metrics": "Of each host, or each bucket of another type, its failure is computed, as 'crushplan fail --each' does. What isn't known has no line. With --to the file is written whole or not at all, and keeps what it has where there is no answer: crushplan_dumps_timestamp_seconds says how old that is.",
     "fail": "First what holds while the devices are down: groups with fewer copies than the pool's min_size, whose I/O stops (in stretch mode that is unknown). Then what their going out moves.",
+    "plan": "FILE has commands of 'ceph' as they are typed, with 'wait' between steps: until all groups are clean. A line that Ceph would refuse is said with Ceph's reason, and nothing behind it is foretold. On the way a device counts all that it gets before what it loses is gone. Hours are those of the busiest device, which reads and writes MB a second in all. 'systemctl stop ceph-osd@3' stops an OSD.",
     "upmap": "FILE has lines 'ceph osd pg-upmap-items GROUP FROM TO ..' or 'ceph osd rm-pg-upmap-items GROUP', as 'osdmaptool --upmap FILE' writes them, or 'ceph osd pg-upmap-primary GROUP DEVICE' or 'rm-pg-upmap-primary GROUP'; '-' is standard input.",
 }
 
@@ -209,6 +213,23 @@ def add_upmap(words):
     words.add_argument("file", metavar="FILE", help="the list of commands")
 
 
+def add_plan(words):
+    words.add_argument("file", metavar="FILE", help="the runbook; '-' is standard input")
+    words.add_argument("--rate", type=rate, metavar="MB", help="megabytes that a device reads and writes in a second: says hours")
+    words.add_argument("--orders", action="store_true", help="also tries the lines between two waits one by one")
+    words.add_argument("--groups", action="store_true", help="lists the groups that move, in the JSON")
+
+
+def rate(text):
+    try:
+        value = fractions.Fraction(text)
+    except (ValueError, ZeroDivisionError):
+        value = 0
+    if not 0 < value <= 10**9:
+        raise argparse.ArgumentTypeError(f"{text!r} isn't a number above 0")
+    return value
+
+
 def add_locate(words):
     words.add_argument("pool_name", nargs="?", metavar="POOL", help="the pool, by its name or id")
     words.add_argument("objects", nargs="*", metavar="OBJECT", help="the name of an object")
@@ -220,5 +241,8 @@ def add_metrics(words):
     words.add_argument("--to", metavar="FILE", help="writes the text into a file, whole or not at all")
 
 
-DRAWN = ("check", "usage", "compare", "drain", "fail", "upmap")
-ADD = {"fetch": add_fetch, "check": add_check, "usage": add_usage, "compare": add_compare, "drain": add_drain, "fail": add_fail, "upmap": add_upmap, "locate": add_locate, "metrics": add_metrics}
+DRAWN = ("check", "usage", "compare", "drain", "fail", "plan", "upmap")
+ADD = {
+    "fetch": add_fetch, "check": add_check, "usage": add_usage, "compare": add_compare, "drain": add_drain,
+    "fail": add_fail, "plan": add_plan, "upmap": add_upmap, "locate": add_locate, "metrics": add_metrics,
+}

@@ -35,6 +35,7 @@ class Pool:
     bytes: typing.Optional[int] = None
     stretched: bool = False  # whether its I/O also stops where a site has no copy (stretch mode)
     tiers: tuple = ()  # the pools that objects of it may lie in instead, or that it is the cache of
+    profile: str = ""  # of its erasure code
 
     def group_name(self, group):
         """Returns a group's id as Ceph writes it."""
@@ -228,6 +229,7 @@ def pool_of(node):
         node.get("pool", int), name, KINDS.get(kind, f"of type {kind}"), size, node.size("min_size", int, 1), node.get("crush_rule", int), pg_num, pgp_num,
         "hashpspool" in flags, node.get("object_hash", int, RJENKINS), target if target != (pg_num, pgp_num) else None,
         stretched=node.get("peering_crush_bucket_count", int, 0) > 0, tiers=tiers_of(node),
+        profile=node.get("erasure_code_profile", str, ""),
     )  # fmt: skip
 
 

@@ -74,6 +74,9 @@ class CrushMap:
     buckets: dict
     rules: dict
     weight_sets: dict = dataclasses.field(default_factory=dict)
+    algs: int = 54  # the kinds of buckets that Ceph may make, by a bit each; straw2 is 1 << 5
+    class_names: list = dataclasses.field(default_factory=list)  # in the order in which they were made
+    shadow_ids: dict = dataclasses.field(default_factory=dict)  # as shadows() has them, while it is changed
     kept: dict = dataclasses.field(default_factory=dict, repr=False, compare=False)  # what lies below items
 
     def name_of(self, item):

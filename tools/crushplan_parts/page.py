@@ -14,7 +14,7 @@ STATES = {0: "good", 1: "bad", 2: "unknown"}
 ONLY_ITSELF = "default-src 'none'; style-src 'unsafe-inline'"
 # characters that a page can't have; a lone surrogate becomes a mark too where the page is encoded
 ODD = re.compile(r"[\x00-\x08\x0b-\x1f\x7f-\x9f\ufffe\uffff]")
-OPTIONS = (("of_class", "--class"), ("each", "--each"), ("by", "--by"))
+OPTIONS = (("of_class", "--class"), ("each", "--each"), ("by", "--by"), ("rate", "--rate"))
 STYLE = """
 :root { color-scheme: light dark; --page: #f4f6f9; --card: #fff; --text: #17202c; --soft: #566272;
   --line: #d9dfe7; --track: #e6eaf0; --old: #94a3b8; --new: #2457c5; --near: #b45309; --full: #b42318;

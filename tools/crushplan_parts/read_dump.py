@@ -30,6 +30,7 @@ def read_dump(path, name):
     rules = {it.id: it for it in (rule_of(node, buckets) for node in whole.each("rules"))}
     tunables = {it: whole.at("tunables").get(it, int) for it in TUNABLES if whole.at("tunables").has(it)}
     map_ = CrushMap(name, False, tunables, devices, classes, types, buckets, rules, weight_sets_of(whole))
+    map_.algs = whole.at("tunables").get("allowed_bucket_algs", int, map_.algs)
     for it in map_.weight_sets.values():
         sharpen(map_, it)
     return map_
