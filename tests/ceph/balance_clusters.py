@@ -91,9 +91,11 @@ def random_balance(seed, number):
     hosts = 0
     for _ in range(racks or drawn.randint(4, 25)):
         count = drawn.randint(2, 5) if racks else 1
-        below = [map_.bucket("straw2", HOST, map_.take_devices(usual if even else drawn.randint(2, 12), weight)) for _ in range(count)]
+        sizes = [usual if even else drawn.randint(2, 12) for _ in range(count)]
+        below = [map_.bucket("straw2", HOST, map_.take_devices(it, weight)) for it in sizes]
         tops.append(map_.bucket("straw2", RACK, below) if racks else below[0])
         hosts += count
     map_.bucket("straw2", ROOT, tops, -1)
     pools = drawn_pools(drawn, map_.devices, racks, hosts)
-    return Cluster(map_.name, map_, pools, states=drawn_states(drawn, map_.devices), upmaps=drawn.choice((0, 10, 40)), seed=seed)
+    states, upmaps = drawn_states(drawn, map_.devices), drawn.choice((0, 10, 40))
+    return Cluster(map_.name, map_, pools, states=states, upmaps=upmaps, seed=seed)

@@ -134,9 +134,12 @@ def kept_pairs(plan, pool, placements):
         asked = run.lists(pool.id, changed, {it: found.get(it, []) for it in changed})
         plan.answer(run)
         placements.update(run.placements(asked))
-        names = some([pool.group_name(it) for it in changed], MOST_NAMED)
-        text = f"Ceph removes items of {counted(len(changed), 'group')} at the next change of a map ({names}): they count as gone"
-        plan.notes.append(Note("upmap", text, pools=[pool.id], groups=[pool.group_name(it) for it in changed], open_=False))
+        names = [pool.group_name(it) for it in sorted(changed)]
+        text = (
+            f"Ceph removes items of {counted(len(changed), 'group')} at the next change of a map "
+            f"({some(names, MOST_NAMED)}): they count as gone"
+        )
+        plan.notes.append(Note("upmap", text, pools=[pool.id], groups=names, open_=False))
     return found
 
 
@@ -144,9 +147,17 @@ def note_oddities(plan, balancing):
     """Notes what of a pool stays as it is."""
     pool, stay = balancing.pool, balancing.pool.pg_num - len(balancing.free)
     if stay:
-        text = f"{counted(stay, 'group')} of pool {pool.name} {'stays' if stay == 1 else 'stay'} as {'it is' if stay == 1 else 'they are'}: by a whole list, with an empty place, or otherwise than the rule wants"
+        verb = "stays as it is" if stay == 1 else "stay as they are"
+        text = (
+            f"{counted(stay, 'group')} of pool {pool.name} {verb}: by a whole list, with an empty place, or otherwise "
+            "than the rule wants"
+        )
         plan.notes.append(Note("balance", text, pools=[pool.id], open_=False))
-    down = sorted(it for it in balancing.ground.counts if it is not None and plan.state(it).reweight and not plan.state(it).up)
+    is_down = lambda it: it is not None and plan.state(it).reweight and not plan.state(it).up
+    down = sorted(filter(is_down, balancing.ground.counts))
     if down:
-        text = f"of pool {pool.name} the copies on {plan.names_of(down)}, which {'is' if len(down) == 1 else 'are'} down and in, stay; the others are shared out among the devices that are up"
+        text = (
+            f"of pool {pool.name} the copies on {plan.names_of(down)}, which {'is' if len(down) == 1 else 'are'} down "
+            "and in, stay; the others are shared out among the devices that are up"
+        )
         plan.notes.append(Note("down", text, pools=[pool.id], devices=down, open_=False))

@@ -55,8 +55,8 @@ class Balancing:
         rule, keeper = plan.map.rules[pool.rule], plan.keeper
         blocks = [it for it in blocks_of(plan.map, rule, pool.size) if it.places]
         self.blocks = [Zone(plan.map, lambda type_: keeper.domains_of(rule, type_), it, plan.state) for it in blocks]
-        self.by_device = {}  # the zone that copies on each device may move in, and which of the rule's blocks it is of
-        self.upper = {}
+        # of each device that takes copies the place of its block and its upper domain: where its copies may go
+        self.by_device = {}
         for place, it in enumerate(self.blocks):
             own = class_ is None or all(plan.map.classes.get(device) == class_ for device in it.weights)
             for device in it.weights if own else ():
@@ -109,15 +109,16 @@ class Balancing:
         counts, found = self.ground.counts, {}
         for place, it in enumerate(self.blocks):
             copies = sum([counts[device] for device in it.weights])
-            own = it.shares(copies, self.pool.pg_num)
-            found.update({device: share for device, share in own.items() if self.by_device.get(device, (None,))[0] == place})
+            own, here = it.shares(copies, self.pool.pg_num), self.of_block(place)
+            found.update({device: own[device] for device in here})
         return found
 
     def limits(self, deviation=None):
         """Returns the least and the greatest number of copies of each device for a deviation; by
         None its share rounded down and up."""
         if deviation is None:
-            return {it: floor(of) for it, of in self.shares.items()}, {it: ceiling(of) for it, of in self.shares.items()}
+            low = {it: floor(of) for it, of in self.shares.items()}
+            return low, {it: ceiling(of) for it, of in self.shares.items()}
         low = {it: max(0, ceiling(of - deviation)) for it, of in self.shares.items()}
         return low, {it: floor(of + deviation) for it, of in self.shares.items()}
 
@@ -138,7 +139,7 @@ class Balancing:
         return sum(self.ground.least(low, high, self.of_block(place)) for place, _ in enumerate(self.blocks))
 
     def of_block(self, place):
-        return [it for it in self.shares if self.by_device[it][0] == place]
+        return [it for it in self.by_device if self.by_device[it][0] == place]
 
     def is_possible(self, deviation):
         """Returns whether the numbers of a zone can sum up to its copies for a deviation: of several
@@ -223,6 +224,10 @@ class Balancing:
                 low[zone] = min(count + parts, most[zone])
         return low, high
 
+    def is_whole(self, upper, devices):
+        """Returns whether the devices of a group in an upper domain are a part that may go."""
+        return len(devices) == self.blocks[upper[0]].width and all(it in self.by_device for it in devices)
+
     def parts(self, inner):
         """Returns the ground of the upper domains, and the places of each part by group."""
         lists, places, zone, domain = {}, {}, {}, {}
@@ -237,8 +242,8 @@ class Balancing:
                 block = block_of[device]
                 if self.blocks[block].upper:
                     found.setdefault((block, self.blocks[block].upper[device]), []).append(place)
-            whole = {it: len(of) == self.blocks[it[0]].width and all(own[at] in inner.zone for at in of) for it, of in found.items()}
-            lists[group] = tuple(it if whole[it] else (*it, None) for it in found)
+            devices = {it: [own[place] for place in of] for it, of in found.items()}
+            lists[group] = tuple(it if self.is_whole(it, of) else (*it, None) for it, of in devices.items())
             places[group] = list(found.values())
         return Ground(lists, dict.fromkeys(lists, ()), {}, zone, domain), places
 

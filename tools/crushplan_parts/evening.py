@@ -389,7 +389,9 @@ class InnerSearch(Search):
         key = lambda it: (self.count[it] - self.low[it], self.count[it] - self.high[it], self.level(it), it)
         found, taken = [], 0
         for device in sorted(self.ground.members.get(upper, ()), key=key):
-            if len(found) < len(places) and not self.bit[device] & taken and self.fits(group, places[len(found)], device):
+            if len(found) == len(places):
+                break
+            if not self.bit[device] & taken and self.fits(group, places[len(found)], device):
                 found.append(device)
                 taken |= self.bit[device]
         return found if len(found) == len(places) else None
