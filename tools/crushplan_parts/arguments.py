@@ -5,6 +5,7 @@ import fractions
 from .faults import Fault, nearest
 
 VERSION = "0.1.0"
+LONGEST_NUMBER = 40  # characters of a number in an argument
 ABOUT = """Says from a cluster's own dumps what a drain, a failure or a changed map does, before it is done.
 
 DIR is a folder with files that the cluster writes:
@@ -40,6 +41,7 @@ COMMANDS = {
     "drain": ("says whether hosts, racks or devices can be drained, and what that moves", "crushplan drain july host3 osd.17"),
     "fail": ("says what happens while hosts, racks or devices are down, and once they are out", "crushplan fail july --each host"),
     "plan": ("says what the lines of a runbook do, step by step, before they are typed", "crushplan plan july runbook --rate 80"),
+    "balance": ("proposes upmap items that even out pools, as lines to type", "crushplan balance july photos --moves 200"),
     "upmap": ("shows what a list of upmap commands does, before it is sent", "crushplan upmap july commands.sh"),
     "locate": ("shows where objects of a pool lie, or groups", "crushplan locate july photos cat.jpg dog.jpg"),
     "metrics": ("writes what is watched of a cluster, in Prometheus' text format", "crushplan metrics july --to july.prom"),
@@ -54,6 +56,7 @@ STATUSES = {
     "drain": "0 yes, every copy has room; 1 no; 2 where what isn't computed may concern the devices, where files on room lack a part, and after an error.",
     "fail": "0 yes, no I/O stops and every copy has room; 1 no; 2 where what isn't computed may concern the devices, where files on room lack a part, and after an error.",
     "plan": "0 yes, every line is taken and every copy has room; 1 no, with the step that decides; 2 where a line isn't foretold, or what isn't computed may concern it.",
+    "balance": "0; 1 where devices stay off, or it was interrupted; 2 where not all could be computed.",
     "upmap": "0; 1 where Ceph would remove some of the items again; 2 where not all could be computed.",
     "locate": "0; 2 where it couldn't be computed.",
     "metrics": "0; 2 where groups lie otherwise than computed, which is written too, or where nothing could be written.",
@@ -67,6 +70,13 @@ MORE = {
     "metrics": "Of each host, or each bucket of another type, its failure is computed, as 'crushplan fail --each' does. What isn't known has no line. With --to the file is written whole or not at all, and keeps what it has where there is no answer: crushplan_dumps_timestamp_seconds says how old that is.",
     "fail": "First what holds while the devices are down: groups with fewer copies than the pool's min_size, whose I/O stops (in stretch mode that is unknown). Then what their going out moves.",
     "plan": "FILE has commands of 'ceph' as they are typed, with 'wait' between steps: until all groups are clean. A line that Ceph would refuse is said with Ceph's reason, and nothing behind it is foretold. On the way a device counts all that it gets before what it loses is gone. Hours are those of the busiest device, which reads and writes MB a second in all. 'systemctl stop ceph-osd@3' stops an OSD.",
+    "balance": (
+        "POOL are names or ids of pools; without one all are evened out. Each device ends with its share by the rule, "
+        "rounded down or up: the share by weights and reweights, but no host or rack that holds one copy of a group gets "
+        "two. Beside what moves stands the least that any list of items would move. Of several pools with df.json the "
+        "bytes are evened out too. Ctrl-C ends the search, with what is found so far. The lines are those that "
+        "'crushplan upmap' reads; 'ceph balancer off' first, as the cluster's own balancer changes items too."
+    ),
     "upmap": "FILE has lines 'ceph osd pg-upmap-items GROUP FROM TO ..' or 'ceph osd rm-pg-upmap-items GROUP', as 'osdmaptool --upmap FILE' writes them, or 'ceph osd pg-upmap-primary GROUP DEVICE' or 'rm-pg-upmap-primary GROUP'; '-' is standard input.",
 }
 
@@ -94,6 +104,30 @@ class Parser(argparse.ArgumentParser):
 def positive(text):
     if not text.isdigit() or not 0 < int(text) <= 65536:
         raise argparse.ArgumentTypeError(f"{text!r} isn't a whole number from 1 to 65536")
+    return int(text)
+
+
+def at_least(least, most=None):
+    """Returns a function that reads a number as 4, 2.5 or 7/3, with bounds."""
+
+    def read(text):
+        import fractions
+
+        try:
+            value = fractions.Fraction(text) if len(text) <= LONGEST_NUMBER else None
+        except (ValueError, ZeroDivisionError):
+            value = None
+        if value is None or value < least or most is not None and value > most:
+            bounds = f"from {float(least):g}" + (f" to {most}" if most is not None else " on")
+            raise argparse.ArgumentTypeError(f"{text[:LONGEST_NUMBER]!r} isn't a number {bounds}, as 4, 2.5 or 7/3")
+        return value
+
+    return read
+
+
+def copies(text):
+    if not text.isdigit() or len(text) > LONGEST_NUMBER:
+        raise argparse.ArgumentTypeError(f"{text!r} isn't a whole number")
     return int(text)
 
 
@@ -146,7 +180,7 @@ def parsed(whole, words):
 
 def take_rest(asked, rest):
     """Takes words as further names of a command, and returns whether it has any."""
-    if asked.command in ("drain", "fail"):
+    if asked.command in ("balance", "drain", "fail"):
         asked.names = [*asked.names, *rest]
     elif asked.command == "locate":
         first = [] if asked.pool_name is None else [asked.pool_name]
@@ -209,6 +243,18 @@ def add_fail(words):
     words.add_argument("--groups", action="store_true", help="lists the groups that are short, and those that move")
 
 
+def add_balance(words):
+    words.add_argument("names", nargs="*", metavar="POOL", help="a pool, by its name or id (all)")
+    words.add_argument("--class", dest="of_class", metavar="CLASS", help="what rules take of a class alone, as ssd")
+    until = words.add_mutually_exclusive_group()
+    until.add_argument("--deviation", type=at_least(0.5), metavar="D", help="only until each device is within D copies of its share")
+    until.add_argument("--moves", type=copies, metavar="N", help="as even as it gets by at most N copies that move")
+    until.add_argument("--until-fill", type=at_least(0, 100), metavar="P", help="only until no device is past P %% of its room")
+    until.add_argument("--primaries", action="store_true", help="evens out primaries instead, by pg-upmap-primary (releases from 18), which moves no data")
+    words.add_argument("--for-bytes", type=copies, default=5, metavar="P", help="P %% more moves to even out the bytes of several pools (5)")
+    words.add_argument("--lines", metavar="FILE", help="also writes the lines alone into a file")
+
+
 def add_upmap(words):
     words.add_argument("file", metavar="FILE", help="the list of commands")
 
@@ -241,8 +287,9 @@ def add_metrics(words):
     words.add_argument("--to", metavar="FILE", help="writes the text into a file, whole or not at all")
 
 
-DRAWN = ("check", "usage", "compare", "drain", "fail", "plan", "upmap")
+DRAWN = ("check", "usage", "compare", "drain", "fail", "plan", "balance", "upmap")
 ADD = {
     "fetch": add_fetch, "check": add_check, "usage": add_usage, "compare": add_compare, "drain": add_drain,
-    "fail": add_fail, "plan": add_plan, "upmap": add_upmap, "locate": add_locate, "metrics": add_metrics,
+    "fail": add_fail, "plan": add_plan, "balance": add_balance, "upmap": add_upmap, "locate": add_locate,
+    "metrics": add_metrics,
 }

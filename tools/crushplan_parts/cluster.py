@@ -98,6 +98,7 @@ class Cluster:
     flags: tuple = ()  # of the whole cluster, as noout
     own_flags: dict = dataclasses.field(default_factory=dict)  # of single devices, buckets and classes, by name
     groups: typing.Optional[object] = None  # where the cluster itself says that groups lie
+    releases: dict = dataclasses.field(default_factory=dict)  # the least ones that it asks for, by field
 
     def is_past(self, name, used):
         """Returns whether such a part of a device's room is more than a ratio of the cluster."""
@@ -197,6 +198,9 @@ def read_osd_dump(cluster, dump, asked):
         affinity = fixed(it.at("primary_affinity").of_kind(Decimal)) if it.has("primary_affinity") else ONE
         if affinity != ONE:
             cluster.affinity[it.get("osd", int)] = affinity
+    for name in ("require_min_compat_client", "require_osd_release"):
+        if dump.has(name):
+            cluster.releases[name] = dump.get(name, str)
     for name in ("full_ratio", "backfillfull_ratio", "nearfull_ratio"):
         if dump.has(name):
             cluster.ratios[name] = dump.size(name, Decimal)

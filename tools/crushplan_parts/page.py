@@ -14,7 +14,10 @@ STATES = {0: "good", 1: "bad", 2: "unknown"}
 ONLY_ITSELF = "default-src 'none'; style-src 'unsafe-inline'"
 # characters that a page can't have; a lone surrogate becomes a mark too where the page is encoded
 ODD = re.compile(r"[\x00-\x08\x0b-\x1f\x7f-\x9f\ufffe\uffff]")
-OPTIONS = (("of_class", "--class"), ("each", "--each"), ("by", "--by"), ("rate", "--rate"))
+OPTIONS = (
+    ("of_class", "--class"), ("each", "--each"), ("by", "--by"), ("rate", "--rate"), ("deviation", "--deviation"),
+    ("moves", "--moves"), ("until_fill", "--until-fill"),
+)  # fmt: skip
 STYLE = """
 :root { color-scheme: light dark; --page: #f4f6f9; --card: #fff; --text: #17202c; --soft: #566272;
   --line: #d9dfe7; --track: #e6eaf0; --old: #94a3b8; --new: #2457c5; --near: #b45309; --full: #b42318;
@@ -68,13 +71,13 @@ def write_page(path, answer, asked, plan):
     answer.blocks = [*answer.blocks, f"{path} is this as a page."]
 
 
-def write_whole(path, data):
+def write_whole(path, data, option="--html"):
     """Writes a file: another one beside it, which then takes its name."""
     if path == "-":
-        raise Fault("--html -: a page is written into a file")
+        raise Fault(f"{option} -: it is written into a file")
     target = pathlib.Path(os.path.realpath(path))
     if target.exists() and not target.is_file():
-        raise Fault(f"--html {path}: it is there, and isn't a file")
+        raise Fault(f"{option} {path}: it is there, and isn't a file")
     part = target.with_name(f".{target.name[:200]}.{os.getpid()}.part")
     try:
         with open(part, "xb") as file:
@@ -83,7 +86,7 @@ def write_whole(path, data):
             os.fsync(file.fileno())
         os.replace(part, target)
     except OSError as error:
-        raise Fault(f"--html {path}: {error.strerror or error}") from None
+        raise Fault(f"{option} {path}: {error.strerror or error}") from None
     finally:
         part.unlink(missing_ok=True)
 
