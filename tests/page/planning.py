@@ -9,7 +9,7 @@ import tempfile
 from model import crush, map_text
 from documents import shown
 from clusters import Cluster
-from page import DRAINED, EXAMPLES, TOP, example, first, unlike
+from page import EXAMPLES, TOP, example, first, unlike
 from model.placed import Placed
 
 CLICKS = 3
