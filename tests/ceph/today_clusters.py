@@ -3,7 +3,7 @@ rules that take one, weight sets of all pools and of one, upmap items, primary a
 with names, and random ones by a seed."""
 import random
 
-from make_maps import HOST, ONE, RACK, ROOT, chosen, leaves, tree_of, weight_text
+from make_maps import HOST, ONE, RACK, ROOT, chosen, hosts_of, leaves, tree_of, weight_text
 from plan_clusters import ERASURE, REPLICATED, Cluster, PlanMap, mixed_states, pool, uneven
 
 CLASSES = ("hdd", "hdd", "ssd")
@@ -79,6 +79,10 @@ def today_clusters():
     map_ = tree_of(TodayMap("no-rule"), ["straw2"] * 3, racks=3, hosts=3, devices=3, weight=uneven(drawn))
     yield Cluster("no-rule", map_, [*pools(), pool(5, NUMBER["hosts"], 3, 32, kind=ERASURE), pool(6, NUMBER["parts-of-hdd"], 4, 16, kind=REPLICATED), of_rule(7, "hosts", 11, 8)], ruleless=(5, 6, 7))
     yield Cluster("straw", tree_of(TodayMap("straw"), ["straw"] * 3, racks=3, hosts=3, devices=3, weight=uneven(drawn)), pools(), ruleless=(1, 2, 3, 4))
+    # a device that is removed has the rows of a set summed up anew, also in the trees without it
+    map_ = hosts_of(TodayMap("other-class", (ALL_POOLS,)), ["straw2"] * 2, hosts=5, devices=3, weight=uneven(drawn))
+    both = [of_rule(1, "hosts-of-hdd", 3, 64), of_rule(2, "devices-of-ssd", 2, 16)]
+    yield Cluster("other-class", map_, both, upmaps=6, drains=[["osd.2"], ["host2"]])
 
 
 def random_today(seed, number):

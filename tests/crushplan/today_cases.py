@@ -9,7 +9,7 @@ import subprocess
 from made import ONE, STEPS, bucket, crush_dump, osd_dump, pool, rule, text_of, write
 from model.crush import hash2, stable_mod
 from model.placed import Placed
-from running import PLAN, equals, wants
+from running import equals, wants
 
 PHOTOS = {"pool": 1, "size": 3, "pg_num": 64}
 NONE = 2_147_483_647

@@ -4,7 +4,7 @@ class or weight, buckets of another kind."""
 import copy
 import json
 
-from clusters import ONE, Cluster
+from clusters import Cluster
 from kept import dropped, plan, same_compare, same_drain, same_usage
 from page import first, unlike
 from today import POOLS, STATES, Today, files_of, with_folder

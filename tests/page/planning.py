@@ -9,7 +9,7 @@ import tempfile
 from model import crush, map_text
 from documents import shown
 from clusters import Cluster
-from page import DRAINED, EXAMPLES, TOP, example, first, unlike
+from page import EXAMPLES, TOP, example, first, unlike
 from model.placed import Placed
 
 CLICKS = 3
@@ -196,13 +196,15 @@ def a_tree_can_be_searched(page):
 
 def smallest_texts():
     """The texts of docs/MAPS.md with their codes and lines, and one for the code of texts that are
-    too long; and the first words of each code's meaning. A text of straw2 would get its mark."""
+    too long; and the first words of each code's meaning. A text of straw2 that has no mark would
+    get it."""
     for section in re.split(r"^(?=\*\*[XM]\d+\*\*: )", MAPS, flags=re.MULTILINE)[1:]:
         code = re.match(r"\*\*([XM]\d+)\*\*", section)[1]
         meaning = re.sub(r"\[([^\]]*)\]\([^)]*\)", r"\1", " ".join(section.split("\n\n")[0].split("**: ")[1].split())).replace("`", "")
         pairs = re.findall(r"^```\n((?:.*\n)*?)```\n`refused line (\d+) code [XM]\d+`$", section, flags=re.MULTILINE)
         for text, line in pairs or [("#" * 4_194_305, 1)]:
-            yield code, text.replace("alg straw2", "alg straw"), int(line), re.split(r"[;.:]( |$)| \(", meaning)[0]
+            asked = text if text.startswith("# crushcalc: straw2\n") else text.replace("alg straw2", "alg straw")
+            yield code, asked, int(line), re.split(r"[;.:]( |$)| \(", meaning)[0]
 
 
 def every_code_is_shown_at_its_line(page):

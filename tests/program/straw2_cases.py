@@ -2,7 +2,7 @@
 that the format's rules give it. Answers stand here as crushtool has them, or come from model/."""
 import random
 
-from model import choosing, crush, map_text
+from model import choosing, map_text
 from model.maps import MARK, canonical_tiny, marked, straw2_of, straw2_under, tiny, with_line
 from model.messages import BAD, NO_VERSION, REUSED, START, body, created, dropped, import_of, imported, item, made, of_b, pool_of, refused, summary, test_of, tested, version_of
 

@@ -3,8 +3,10 @@ CRUSH weight becomes 0 first, in the place of the drain."""
 import fractions
 
 from .edits import purged, weighed
+from .sets import key_of, rows_of
 from .stages import Stages
 from .summary import Bytes, bytes_anew, gains, total, whole, written_anew
+from .texts import reached_buckets
 
 
 class Steps:
@@ -37,10 +39,22 @@ class AfterDrain:
         self.plan, self.devices = plan, devices
         has, own = set(devices), set(devices)
         has.update(it.id for it in plan.map.buckets.values() if not own.isdisjoint([item for item, _ in it.items]))
-        self.pools = [it.id for it in plan.pools.values() if has & self.below(it)]
-        own = {it: plan.pools[it] for it in self.pools}
         self.gone, self.weightless = purged(plan.map, devices), weighed(plan.map, devices)
+        others = self.changed_elsewhere()
+        own = {it.id: it for it in plan.pools.values() if has & self.below(it) or self.key(it) in others}
+        self.pools = list(own)
         self.texts = [plan.written(it, own) for it in (self.gone, self.weightless)]
+
+    def key(self, pool):
+        """Returns a pool's rule and weight set."""
+        return pool.rule, key_of(self.plan.map, pool.id)
+
+    def changed_elsewhere(self):
+        """Returns the rules and weight sets of which either map has another tree. It may be one
+        without the devices: Ceph then sums up all rows of weight sets, and makes the trees of
+        classes anew."""
+        keys, maps = {self.key(it) for it in self.plan.pools.values()}, (self.gone, self.weightless)
+        return {it for it in keys if any(tree_by(of, *it) != tree_by(self.plan.map, *it) for of in maps)}
 
     def below(self, pool):
         """Returns the items that a pool's rule takes, and all buckets below them."""
@@ -98,3 +112,9 @@ class AfterDrain:
         """Returns the copies in all, of the pools of which both are known: drained and then
         removed, and by the CRUSH weight first."""
         return self.drained + self.purge.copies, self.weight_first.copies + self.then_purge.copies
+
+
+def tree_by(map_, rule, key):
+    """Returns the items of the buckets that a rule can come by, and their weights in a set."""
+    buckets = reached_buckets(map_, rule)
+    return {it: map_.buckets[it].items for it in buckets}, rows_of(map_, key, buckets)

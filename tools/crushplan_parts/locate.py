@@ -1,7 +1,7 @@
 """`crushplan locate`: where objects lie, or groups."""
 import re
 
-from .faults import Fault, nearest, some
+from .faults import Fault, some
 from .output import Answer, Table, devices_text
 from .reports import listed
 from .service import Request

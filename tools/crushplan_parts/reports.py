@@ -4,7 +4,7 @@ from .faults import counted, some
 from .output import Table, devices_text, shown, sized
 
 from .shares import hundredths, percent, rounded
-from .summary import bytes_after, looks_at_room, whole
+from .summary import bytes_after, looks_at_room
 
 MOST_ROWS = 40  # devices in a table of usage; where there are more, hosts are shown
 PROVED = {True: "not proved: the program is unproved", False: "proved", None: "proved, if the server's program is"}

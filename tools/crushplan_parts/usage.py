@@ -76,7 +76,6 @@ def extreme(row):
 def row_of(plan, type_, name, host, own):
     copies, expected = sum(it.after for it in own), sum_fractions(it.expected_after for it in own)
     bytes_ = bytes_after(own)
-    room = plan.cluster.rooms.get(own[0].id) if type_ == 0 else None
     rooms = [plan.cluster.rooms[it.id] for it in own if it.id in plan.cluster.rooms]
     size = sum(it.size for it in rooms)
     return {
