@@ -46,7 +46,9 @@ mon osd min up ratio = 0
 mon osd adjust heartbeat grace = false
 osd heartbeat grace = 600
 osd heartbeat interval = 30
-mon mgr beacon grace = 600
+# a manager on a slow machine isn't replaced; but the monitor's clock starts with the machine and
+# has no time before 0: with a grace longer than that, each beacon is too old
+mon mgr beacon grace = {grace}
 # a group waits until what an OSD that ended was allowed to answer is over: 6 seconds, not 480
 osd pool default read lease ratio = 0.01
 osd crush update on start = false
@@ -77,6 +79,7 @@ osd op num shards = 1
 osd op num threads per shard = 1
 """
 BYTES_OF_OSD = 256 * 1024 * 1024
+GRACE = 600  # seconds
 NEEDED = ("ceph", "ceph-mon", "ceph-mgr", "ceph-osd", "ceph-objectstore-tool", "ceph-authtool", "monmaptool", "crushtool", "osdmaptool", "setpriv")
 JOBS = 4
 # a group in one of these is still at work
@@ -173,7 +176,8 @@ class Cluster:
 
     def start_monitor(self):
         fsid, ring, ports = str(uuid.uuid4()), self.folder / "keyring", free_ports(2)
-        self.conf.write_text(CONF.format(fsid=fsid, folder=self.folder, ports=ports, bytes_of_osd=BYTES_OF_OSD))
+        grace = min(GRACE, int(time.monotonic()))
+        self.conf.write_text(CONF.format(fsid=fsid, folder=self.folder, ports=ports, grace=grace, bytes_of_osd=BYTES_OF_OSD))
         run("ceph-authtool", "--create-keyring", ring, "--gen-key", "-n", "mon.", "--cap", "mon", "allow *")
         run("ceph-authtool", ring, "--gen-key", "-n", "client.admin", *(word for of in ("mon", "osd", "mgr") for word in ("--cap", of, "allow *")))
         monmap = self.folder / "monmap"
