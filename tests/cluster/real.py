@@ -87,7 +87,7 @@ AT_WORK = {"creating", "unknown", "peering", "activating", "stale", "wait", "lag
            "backfilling", "backfill_wait", "backfill_toofull", "forced_recovery", "forced_backfill", "repair", "snaptrim", "scrubbing"}  # fmt: skip
 NONE = 2147483647
 MODULES = pathlib.Path("/usr/share/ceph/mgr")  # of the manager
-MAPPED = re.compile(r"(\d+)\.([0-9a-f]+) raw \(\[[^]]*\], p-?\d+\) up \(\[([^]]*)\], p-?\d+\) acting \(\[([^]]*)\], p-?\d+\)")
+MAPPED = re.compile(r"(\d+)\.([0-9a-f]+) raw \(\[[^]]*\], p-?\d+\) up \(\[([^]]*)\], p(-?\d+)\) acting \(\[([^]]*)\], p-?\d+\)")
 PERIOD = 1.2  # seconds: a little more than OSDs wait between two reports
 PATIENCE = 900  # seconds for what takes a few on a machine that does nothing else
 
@@ -291,14 +291,16 @@ class Cluster:
         return found
 
     def mapped(self):
-        """Returns the up and acting lists of all groups, by the monitor's newest map."""
+        """Returns the up and acting lists and the primary of all groups, by the monitor's newest
+        map."""
         path = self.folder / "osdmap"
         path.write_bytes(self.told_bytes("osd getmap"))
         found = {}
         for line in run("osdmaptool", path, "--test-map-pgs-dump-all").splitlines():
             it = MAPPED.match(line)
             if it:
-                found[int(it[1]), int(it[2], 16)] = tuple([none_or(int(device)) for device in of.split(",") if device] for of in (it[3], it[4]))
+                up, acting = ([none_or(int(device)) for device in of.split(",") if device] for of in (it[3], it[5]))
+                found[int(it[1]), int(it[2], 16)] = up, acting, none_or(int(it[4]))
         return found
 
     def placed(self):
@@ -307,17 +309,19 @@ class Cluster:
 
         def found():
             groups, mapped = self.groups(), self.mapped()
-            return groups if {key: it["up"] for key, it in groups.items()} == {key: up for key, (up, _) in mapped.items()} else None
+            return groups if {key: it["up"] for key, it in groups.items()} == {key: up for key, (up, *_) in mapped.items()} else None
 
         return awaited(found, "the lists of the newest map")
 
     def settled(self):
         """Returns the groups once none is at work, and the OSDs have the lists of the newest map,
-        twice one after the other. Failed says which are at work."""
+        twice one after the other; those that no OSD has have the lists of that map. Failed says
+        which are at work."""
         end, last = time.monotonic() + PATIENCE, None
         while True:
             groups, mapped = self.groups(), self.mapped()
-            why = {key: why_at_work(groups.get(key), *lists) for key, lists in sorted(mapped.items())}
+            gone = self.gone(groups, mapped)
+            why = {key: why_at_work(groups.get(key), up, acting) for key, (up, acting, _) in sorted(mapped.items()) if key not in gone}
             why = {key: it for key, it in why.items() if it}
             if not why and set(groups) == set(mapped) and groups == last:
                 return groups
@@ -327,13 +331,24 @@ class Cluster:
             time.sleep(PERIOD)
 
 
+    def gone(self, groups, mapped):
+        """Returns the groups whose every OSD has ended, and gives them the lists of the map. OSDs
+        that the map gives them later know nothing of them."""
+        stale = [key for key, it in groups.items() if "stale" in it["states"] and key in mapped]
+        up = {it["osd"] for it in self.asked("osd dump")["osds"] if it["up"]} if stale else ()
+        found = {key for key in stale if not {*groups[key]["up"], *groups[key]["acting"]} & {*up}}
+        for key in found:
+            groups[key].update(zip(("up", "acting", "primary"), mapped[key]))
+        return found
+
+
 def why_at_work(group, up, acting):
     """Returns what a group still has to do before it is at rest on these lists, or None."""
     if group is None:
         return "unknown"
     states = group["states"]
     if not any(it is not None for it in acting):
-        return None if "stale" in states else "not stale yet"
+        return "not stale yet"
     if (group["up"], group["acting"]) != (up, acting):
         return f"its OSDs have {group['up']} {group['acting']}, the map has {up} {acting}"
     # an undersized group may keep a copy outside its list, if it has all that the list asks for
