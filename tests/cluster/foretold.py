@@ -12,7 +12,7 @@ import steps
 CRUSHPLAN = pathlib.Path(__file__).resolve().parent.parent.parent / "tools" / "crushplan"
 ERASURE = 3
 JOBS = 4
-SECONDS = 300
+SECONDS = 1800  # on a slow machine
 
 
 class Unsaid(Exception):

@@ -45,7 +45,7 @@ mon osd min in ratio = 0
 mon osd min up ratio = 0
 mon osd adjust heartbeat grace = false
 osd heartbeat grace = 600
-osd heartbeat interval = 30
+osd heartbeat interval = 60
 # a manager on a slow machine isn't replaced; but the monitor's clock starts with the machine and
 # has no time before 0: with a grace longer than that, each beacon is too old
 mon mgr beacon grace = {grace}
@@ -278,15 +278,16 @@ class Cluster:
         """Waits until exactly these OSDs are up."""
         awaited(lambda: {it["osd"] for it in self.asked("osd dump")["osds"] if it["up"]} == set(names), f"OSDs {names}")
 
-    def groups(self):
+    def groups(self, *, brief=False):
         """Returns each group of each pool, (pool, group), as its OSDs say: up and acting lists, in
-        which None is an empty place, the primary of up, the states, its objects and their bytes."""
+        which None is an empty place, the primary of up, the states; if not brief, which takes a
+        tenth of the time, its objects and their bytes."""
         found = {}
-        for it in self.asked("pg dump", "mgr", dumpcontents=["pgs"])["pg_stats"]:
+        for it in self.asked("pg dump", "mgr", dumpcontents=["pgs_brief" if brief else "pgs"])["pg_stats"]:
             pool, group = it["pgid"].split(".")
             found[int(pool), int(group, 16)] = {
-                "up": listed(it["up"]), "primary": none_or(it["up_primary"]), "acting": listed(it["acting"]),
-                "states": frozenset(it["state"].split("+")), "objects": it["stat_sum"]["num_objects"], "bytes": it["stat_sum"]["num_bytes"],
+                "up": listed(it["up"]), "primary": none_or(it["up_primary"]), "acting": listed(it["acting"]), "states": frozenset(it["state"].split("+")),
+                **({} if brief else {"objects": it["stat_sum"]["num_objects"], "bytes": it["stat_sum"]["num_bytes"]}),
             }  # fmt: skip
         return found
 
@@ -304,11 +305,11 @@ class Cluster:
         return found
 
     def placed(self):
-        """Returns the groups once the OSDs have the up lists of the newest map, whether objects
-        still move or not."""
+        """Returns the groups, in brief, once the OSDs have the up lists of the newest map, whether
+        objects still move or not."""
 
         def found():
-            groups, mapped = self.groups(), self.mapped()
+            groups, mapped = self.groups(brief=True), self.mapped()
             return groups if {key: it["up"] for key, it in groups.items()} == {key: up for key, (up, *_) in mapped.items()} else None
 
         return awaited(found, "the lists of the newest map")
@@ -319,15 +320,16 @@ class Cluster:
         which are at work."""
         end, last = time.monotonic() + PATIENCE, None
         while True:
-            groups, mapped = self.groups(), self.mapped()
+            groups, mapped = self.groups(brief=last is None), self.mapped()
             gone = self.gone(groups, mapped)
             why = {key: why_at_work(groups.get(key), up, acting) for key, (up, acting, _) in sorted(mapped.items()) if key not in gone}
             why = {key: it for key, it in why.items() if it}
-            if not why and set(groups) == set(mapped) and groups == last:
+            short = {key: in_brief(it) for key, it in groups.items()}
+            if not why and set(groups) == set(mapped) and short == last:
                 return groups
             if time.monotonic() > end:
                 raise Failed(f"{len(why)} groups didn't settle in {PATIENCE} s: {dict(list(why.items())[:5])}")
-            last = groups if not why else None
+            last = short if not why else None
             time.sleep(PERIOD)
 
 
@@ -355,6 +357,10 @@ def why_at_work(group, up, acting):
     if states & AT_WORK or not states & {"clean", "undersized"} or "undersized" in states and not set(up) <= {*acting, None}:
         return "+".join(sorted(states))
     return None
+
+
+def in_brief(group):
+    return {key: it for key, it in group.items() if key not in ("objects", "bytes")}
 
 
 def listed(devices):
