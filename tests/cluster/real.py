@@ -89,7 +89,7 @@ NONE = 2147483647
 MODULES = pathlib.Path("/usr/share/ceph/mgr")  # of the manager
 MAPPED = re.compile(r"(\d+)\.([0-9a-f]+) raw \(\[[^]]*\], p-?\d+\) up \(\[([^]]*)\], p(-?\d+)\) acting \(\[([^]]*)\], p-?\d+\)")
 PERIOD = 1.2  # seconds: a little more than OSDs wait between two reports
-PATIENCE = 900  # seconds for what takes a few on a machine that does nothing else
+PATIENCE = 3600  # seconds for what takes a few on a machine that does nothing else
 
 
 class Failed(Exception):
