@@ -18,7 +18,7 @@ import sys
 
 import rados
 
-SECONDS = 300
+SECONDS = 900
 AT_ONCE = 64
 
 

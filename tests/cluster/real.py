@@ -45,8 +45,10 @@ mon osd min in ratio = 0
 mon osd min up ratio = 0
 mon osd adjust heartbeat grace = false
 osd heartbeat grace = 600
-osd heartbeat interval = 30
-mon mgr beacon grace = 600
+osd heartbeat interval = 60
+# a manager on a slow machine isn't replaced; but the monitor's clock starts with the machine and
+# has no time before 0: with a grace longer than that, each beacon is too old
+mon mgr beacon grace = {grace}
 # a group waits until what an OSD that ended was allowed to answer is over: 6 seconds, not 480
 osd pool default read lease ratio = 0.01
 osd crush update on start = false
@@ -77,6 +79,7 @@ osd op num shards = 1
 osd op num threads per shard = 1
 """
 BYTES_OF_OSD = 256 * 1024 * 1024
+GRACE = 600  # seconds
 NEEDED = ("ceph", "ceph-mon", "ceph-mgr", "ceph-osd", "ceph-objectstore-tool", "ceph-authtool", "monmaptool", "crushtool", "osdmaptool", "setpriv")
 JOBS = 4
 # a group in one of these is still at work
@@ -84,9 +87,9 @@ AT_WORK = {"creating", "unknown", "peering", "activating", "stale", "wait", "lag
            "backfilling", "backfill_wait", "backfill_toofull", "forced_recovery", "forced_backfill", "repair", "snaptrim", "scrubbing"}  # fmt: skip
 NONE = 2147483647
 MODULES = pathlib.Path("/usr/share/ceph/mgr")  # of the manager
-MAPPED = re.compile(r"(\d+)\.([0-9a-f]+) raw \(\[[^]]*\], p-?\d+\) up \(\[([^]]*)\], p-?\d+\) acting \(\[([^]]*)\], p-?\d+\)")
+MAPPED = re.compile(r"(\d+)\.([0-9a-f]+) raw \(\[[^]]*\], p-?\d+\) up \(\[([^]]*)\], p(-?\d+)\) acting \(\[([^]]*)\], p-?\d+\)")
 PERIOD = 1.2  # seconds: a little more than OSDs wait between two reports
-PATIENCE = 900  # seconds for what takes a few on a machine that does nothing else
+PATIENCE = 3600  # seconds for what takes a few on a machine that does nothing else
 
 
 class Failed(Exception):
@@ -173,7 +176,8 @@ class Cluster:
 
     def start_monitor(self):
         fsid, ring, ports = str(uuid.uuid4()), self.folder / "keyring", free_ports(2)
-        self.conf.write_text(CONF.format(fsid=fsid, folder=self.folder, ports=ports, bytes_of_osd=BYTES_OF_OSD))
+        grace = min(GRACE, int(time.monotonic()))
+        self.conf.write_text(CONF.format(fsid=fsid, folder=self.folder, ports=ports, grace=grace, bytes_of_osd=BYTES_OF_OSD))
         run("ceph-authtool", "--create-keyring", ring, "--gen-key", "-n", "mon.", "--cap", "mon", "allow *")
         run("ceph-authtool", ring, "--gen-key", "-n", "client.admin", *(word for of in ("mon", "osd", "mgr") for word in ("--cap", of, "allow *")))
         monmap = self.folder / "monmap"
@@ -274,53 +278,70 @@ class Cluster:
         """Waits until exactly these OSDs are up."""
         awaited(lambda: {it["osd"] for it in self.asked("osd dump")["osds"] if it["up"]} == set(names), f"OSDs {names}")
 
-    def groups(self):
+    def groups(self, *, brief=False):
         """Returns each group of each pool, (pool, group), as its OSDs say: up and acting lists, in
-        which None is an empty place, the primary of up, the states, its objects and their bytes."""
+        which None is an empty place, the primary of up, the states; if not brief, which takes a
+        tenth of the time, its objects and their bytes."""
         found = {}
-        for it in self.asked("pg dump", "mgr", dumpcontents=["pgs"])["pg_stats"]:
+        for it in self.asked("pg dump", "mgr", dumpcontents=["pgs_brief" if brief else "pgs"])["pg_stats"]:
             pool, group = it["pgid"].split(".")
             found[int(pool), int(group, 16)] = {
-                "up": listed(it["up"]), "primary": none_or(it["up_primary"]), "acting": listed(it["acting"]),
-                "states": frozenset(it["state"].split("+")), "objects": it["stat_sum"]["num_objects"], "bytes": it["stat_sum"]["num_bytes"],
+                "up": listed(it["up"]), "primary": none_or(it["up_primary"]), "acting": listed(it["acting"]), "states": frozenset(it["state"].split("+")),
+                **({} if brief else {"objects": it["stat_sum"]["num_objects"], "bytes": it["stat_sum"]["num_bytes"]}),
             }  # fmt: skip
         return found
 
     def mapped(self):
-        """Returns the up and acting lists of all groups, by the monitor's newest map."""
+        """Returns the up and acting lists and the primary of all groups, by the monitor's newest
+        map."""
         path = self.folder / "osdmap"
         path.write_bytes(self.told_bytes("osd getmap"))
         found = {}
         for line in run("osdmaptool", path, "--test-map-pgs-dump-all").splitlines():
             it = MAPPED.match(line)
             if it:
-                found[int(it[1]), int(it[2], 16)] = tuple([none_or(int(device)) for device in of.split(",") if device] for of in (it[3], it[4]))
+                up, acting = ([none_or(int(device)) for device in of.split(",") if device] for of in (it[3], it[5]))
+                found[int(it[1]), int(it[2], 16)] = up, acting, none_or(int(it[4]))
         return found
 
     def placed(self):
-        """Returns the groups once the OSDs have the up lists of the newest map, whether objects
-        still move or not."""
+        """Returns the groups, in brief, once the OSDs have the up lists of the newest map, whether
+        objects still move or not."""
 
         def found():
-            groups, mapped = self.groups(), self.mapped()
-            return groups if {key: it["up"] for key, it in groups.items()} == {key: up for key, (up, _) in mapped.items()} else None
+            groups, mapped = self.groups(brief=True), self.mapped()
+            return groups if {key: it["up"] for key, it in groups.items()} == {key: up for key, (up, *_) in mapped.items()} else None
 
         return awaited(found, "the lists of the newest map")
 
     def settled(self):
         """Returns the groups once none is at work, and the OSDs have the lists of the newest map,
-        twice one after the other. Failed says which are at work."""
+        twice one after the other; those that no OSD has have the lists of that map. Failed says
+        which are at work."""
         end, last = time.monotonic() + PATIENCE, None
         while True:
-            groups, mapped = self.groups(), self.mapped()
-            why = {key: why_at_work(groups.get(key), *lists) for key, lists in sorted(mapped.items())}
+            groups, mapped = self.groups(brief=last is None), self.mapped()
+            gone = self.gone(groups, mapped)
+            why = {key: why_at_work(groups.get(key), up, acting) for key, (up, acting, _) in sorted(mapped.items()) if key not in gone}
             why = {key: it for key, it in why.items() if it}
-            if not why and set(groups) == set(mapped) and groups == last:
+            short = {key: in_brief(it) for key, it in groups.items()}
+            if not why and set(groups) == set(mapped) and short == last:
                 return groups
             if time.monotonic() > end:
                 raise Failed(f"{len(why)} groups didn't settle in {PATIENCE} s: {dict(list(why.items())[:5])}")
-            last = groups if not why else None
+            last = short if not why else None
             time.sleep(PERIOD)
+
+
+    def gone(self, groups, mapped):
+        """Returns the groups whose every OSD has ended, and gives them the lists of the map. OSDs
+        that the map gives them later know nothing of them."""
+        stale = [key for key, it in groups.items() if "stale" in it["states"] and key in mapped]
+        up = {it["osd"] for it in self.asked("osd dump")["osds"] if it["up"]} if stale else ()
+        found = {key for key in stale if not {*groups[key]["up"], *groups[key]["acting"]} & {*up}}
+        for key in found:
+            groups[key].update(zip(("up", "acting", "primary"), mapped[key]))
+        return found
 
 
 def why_at_work(group, up, acting):
@@ -329,13 +350,17 @@ def why_at_work(group, up, acting):
         return "unknown"
     states = group["states"]
     if not any(it is not None for it in acting):
-        return None if "stale" in states else "not stale yet"
+        return "not stale yet"
     if (group["up"], group["acting"]) != (up, acting):
         return f"its OSDs have {group['up']} {group['acting']}, the map has {up} {acting}"
     # an undersized group may keep a copy outside its list, if it has all that the list asks for
     if states & AT_WORK or not states & {"clean", "undersized"} or "undersized" in states and not set(up) <= {*acting, None}:
         return "+".join(sorted(states))
     return None
+
+
+def in_brief(group):
+    return {key: it for key, it in group.items() if key not in ("objects", "bytes")}
 
 
 def listed(devices):

@@ -292,12 +292,12 @@ class OwnStory(Story):
             yield self.weights_set()
         if mode:
             yield self.balanced(mode)
-        yield self.failure()
         yield self.upmaps()
         yield self.map_changed()
         yield self.reweighted()
         if self.cluster.osds == clusters.LARGE:
             yield self.drained_in_turn()
+        yield self.failure()
         devices = self.choice.sample(sorted(self.left), 3)
         yield self.device_removed(devices[0])
         yield self.weight_first(devices[1])
