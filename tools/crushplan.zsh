@@ -64,7 +64,7 @@ _crushplan() {
         compare) _arguments -C $common $drawn '--groups[lists groups too]' '2:changed map:_files' ;;
         drain) _arguments -C $common $drawn $changed ;;
         fail) _arguments -C $common $drawn $changed '--each[every item of a type in turn]:type:->types' ;;
-        plan) _arguments -C $common $drawn '--rate[megabytes a second of a device]:number:' '--orders[tries other orders too]' '--groups[lists groups in the JSON]' '2:runbook:_files' ;;
+        plan) _arguments -C $common $drawn '--rate[megabytes a second of a device]:number:' '--orders[tries other orders too]' '--groups[lists groups, in JSON and CSV]' '2:runbook:_files' ;;
         upmap) _arguments -C $common $drawn '2:list of commands:_files' ;;
         locate) _arguments -C $common '*--group[a group, as 5.1f]:group:' '2:pool:->pools' '*:object:' ;;
         metrics) _arguments -C $common '*--each[a type whose buckets fail in turn]:type:->types' '--to[writes into a file]:file:_files' ;;

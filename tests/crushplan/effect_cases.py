@@ -146,4 +146,5 @@ def case(name):
 
 def cases():
     for path in sorted(KEPT.glob("*.json")):
-        yield path.stem, case(path.stem)
+        if path.stem != "upmaps":  # what the monitor removes is in plan_cases.py
+            yield path.stem, case(path.stem)

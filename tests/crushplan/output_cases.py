@@ -12,7 +12,7 @@ import sys
 from made import ONE, STEPS, bucket, crush_dump, osd_dump, pool, rule, text_of, write
 from running import PLAN, SECONDS, equals, wants
 
-COMMANDS = ("fetch", "check", "usage", "compare", "drain", "fail", "upmap", "locate", "metrics")
+COMMANDS = ("fetch", "check", "usage", "compare", "drain", "fail", "plan", "balance", "upmap", "locate", "metrics")
 
 
 def usual(folder):

@@ -388,6 +388,8 @@ def outputs(runner, folder):
         [(it[0], it[3], it[4]) for it in rows[1:]],
         [(str(it["step"]), str(it["moved"]), str(it["copies"])) for it in said["steps"]],
     )
+    rows = [it.split(",") for it in runner.run("plan", folder, path, "--csv", "--groups")[1].splitlines()]
+    equals("a row for each group", len(rows) - 1, sum(it["moved"] for it in said["steps"]))
     runner.run("plan", folder, path, "--html", folder / "page.html")
     page = (folder / "page.html").read_text()
     wants(said["answer"] in page and "data-name=\"osd.4\"" in page, "the page lacks the answer or a bar")
@@ -416,7 +418,7 @@ def kept_upmaps(runner, folder):
             }
             wants(not odd, f"{where}: {part}: here and there {odd}")
         entries += sum(len(it["changes"].get(part, ())) for part in ("pairs", "lists"))
-    wants(entries > 20, f"only {entries} entries came or went")
+    wants(entries >= 10, f"only {entries} entries came or went")
 
 
 def cases():

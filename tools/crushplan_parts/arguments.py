@@ -69,7 +69,7 @@ MORE = {
     "locate": "An OBJECT is a name, and never a group, which --group names: 'crushplan locate july --group 5.1f', as 'ceph pg map 5.1f'. 'crushplan usage DIR --groups' lists all groups.",
     "metrics": "Of each host, or each bucket of another type, its failure is computed, as 'crushplan fail --each' does. What isn't known has no line. With --to the file is written whole or not at all, and keeps what it has where there is no answer: crushplan_dumps_timestamp_seconds says how old that is.",
     "fail": "First what holds while the devices are down: groups with fewer copies than the pool's min_size, whose I/O stops (in stretch mode that is unknown). Then what their going out moves.",
-    "plan": "FILE has commands of 'ceph' as they are typed, with 'wait' between steps: until all groups are clean. A line that Ceph would refuse is said with Ceph's reason, and nothing behind it is foretold. On the way a device counts all that it gets before what it loses is gone. Hours are those of the busiest device, which reads and writes MB a second in all. 'systemctl stop ceph-osd@3' stops an OSD.",
+    "plan": "FILE has commands of 'ceph' as they are typed, with 'wait' between steps: until all groups are clean. A line that Ceph would refuse is said with Ceph's reason, and nothing behind it is foretold. On the way a device counts all that it gets before what it loses is gone. Hours are those of the busiest device, which reads and writes MB a second in all.\n\nCommands of 'ceph osd': out, in, reweight, down, set, unset, new, rm, destroy, purge, primary-affinity; pool set (size, min_size, crush_rule, pgp_num); pg-upmap, pg-upmap-items, pg-upmap-primary, and with rm-; setcrushmap. Of 'ceph osd crush': reweight, reweight-subtree, reweight-all, add, set, create-or-move, move, link, unlink, rm, add-bucket, swap-bucket, rename-bucket, set-device-class, rm-device-class, set-all-straw-buckets-to-straw2, tunables; rule create-simple, create-replicated, create-erasure, rm; weight-set create, create-compat, reweight, reweight-compat, rm, rm-compat. 'systemctl stop ceph-osd@3' stops an OSD, and start starts it.",
     "balance": (
         "POOL are names or ids of pools; without one all are evened out. Each device ends with its share by the rule, "
         "rounded down or up: the share by weights and reweights, but no host or rack that holds one copy of a group gets "
@@ -263,7 +263,7 @@ def add_plan(words):
     words.add_argument("file", metavar="FILE", help="the runbook; '-' is standard input")
     words.add_argument("--rate", type=rate, metavar="MB", help="megabytes that a device reads and writes in a second: says hours")
     words.add_argument("--orders", action="store_true", help="also tries the lines between two waits one by one")
-    words.add_argument("--groups", action="store_true", help="lists the groups that move, in the JSON")
+    words.add_argument("--groups", action="store_true", help="lists the groups that move, in JSON and CSV")
 
 
 def rate(text):

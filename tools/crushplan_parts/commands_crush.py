@@ -8,8 +8,8 @@ from .crush_map import ONE, mark_holes
 from .faults import some
 from .wrapper import MOST_WEIGHT, Refused, Unforetold, Wrapper, location_text
 
-# what 'crush tunables' sets: local tries, fallback tries, total tries, descend_once, vary_r, stable,
-# straw_calc_version (None keeps it), allowed kinds of buckets
+# what 'crush tunables' sets: local tries, fallback tries, total tries, descend_once, vary_r,
+# stable, straw_calc_version (None keeps it), allowed kinds of buckets
 PROFILES = {
     "legacy": (2, 5, 19, 0, 0, 0, 0, 22),
     "argonaut": (2, 5, 19, 0, 0, 0, None, 22),

@@ -5,6 +5,7 @@ from .commands import counted_in, id_in
 from .wrapper import Refused, Unforetold
 
 MOST_SIZE = 10
+OLD_CLIENTS = ("unknown", "argonaut", "bobtail", "dumpling", "firefly", "hammer", "infernalis", "jewel", "kraken")
 
 
 def set_(maps, words):
@@ -104,8 +105,24 @@ def osds_in(maps, words, must_exist=True):
     return found
 
 
+def check_clients(maps):
+    """Refuses upmap entries while clients are let in that don't know them."""
+    if maps.oldest_client in OLD_CLIENTS:
+        raise Refused(
+            "EPERM",
+            f"min_compat_client {maps.oldest_client} < luminous, which is required for pg-upmap. "
+            "Try 'ceph osd set-require-min-compat-client luminous' before using the new interface",
+        )
+
+
+def set_oldest_client(maps, words):
+    (maps.oldest_client,) = words.take(1, 1, "RELEASE")
+    return []
+
+
 def set_pairs(maps, words):
     text, *rest = words.take(2, None, "GROUP FROM TO ..")
+    check_clients(maps)
     pool, group = group_in(maps, text)
     ids = osds_in(maps, rest, must_exist=False)
     if len(ids) % 2:
@@ -130,6 +147,7 @@ def set_pairs(maps, words):
 
 def set_list(maps, words):
     text, *rest = words.take(2, None, "GROUP ID ..")
+    check_clients(maps)
     pool, group = group_in(maps, text)
     ids = list(dict.fromkeys(osds_in(maps, rest)))
     if not pool.min_size <= len(ids) <= pool.size:
@@ -178,4 +196,5 @@ COMMANDS = {
     ("osd", "rm-pg-upmap"): dropped("lists"),
     ("osd", "pg-upmap-primary"): set_primary,
     ("osd", "rm-pg-upmap-primary"): dropped("primaries"),
+    ("osd", "set-require-min-compat-client"): set_oldest_client,
 }

@@ -106,6 +106,10 @@ class Follower:
                 removed += clean_group(keeper, plan.cluster.pools[pool], group, it.raw, found)
         return (found, removed) if removed else (maps, [])
 
+    def taken_down(self, maps):
+        """Returns the OSDs that are down, and were up at the start."""
+        return [id_ for id_, it in maps.osds.items() if not it.up and id_ in self.maps.osds and self.maps.osds[id_].up]
+
     def settled(self, maps, taken_down):
         """Returns the maps once enough time has passed, and what happened by itself: OSDs that the
         runbook took down go out, and others come up."""

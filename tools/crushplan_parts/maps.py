@@ -41,6 +41,7 @@ class Maps:
     gone: dict = dataclasses.field(default_factory=dict)  # reweights of OSDs that don't exist any more
     folders: tuple = ()  # where files of the runbook may be
     release: typing.Optional[str] = None
+    oldest_client: str = "luminous"  # that the monitors let in
 
     def copied(self):
         """Returns the same, to be changed."""
@@ -106,6 +107,7 @@ def read_more(maps, dump):
     if dump.has("erasure_code_profiles"):
         own = dump.at("erasure_code_profiles")
         maps.profiles = {name: dict(own.at(name).of_kind(dict)) for name in own.of_kind(dict)}
+    maps.oldest_client = dump.get("require_min_compat_client", str, maps.oldest_client)
     maps.release = dump.get("require_osd_release", str, None) if dump.has("require_osd_release") else None
 
 

@@ -2,6 +2,7 @@
 written, how full devices get on the way and afterwards, what stops."""
 import collections
 import fractions
+import functools
 
 from .commands_pool import data_parts
 from .shares import Expected, percent
@@ -167,11 +168,13 @@ class Passage:
         busiest = max((own[0][it] + own[1][it] for it in {*own[0], *own[1]}), default=fractions.Fraction(0))
         return busiest / (rate * MEGABYTE * HOUR)
 
+    @functools.cached_property
     def used_on_the_way(self):
         """Returns the used parts by device while each new copy is there and no old one is gone
         yet: more than that none has."""
         return self.ledger.used({it.id: counts_of(it, self.before.lists[it.id]) for it in self.pools}, self.written)
 
+    @functools.cached_property
     def used_after(self):
         return self.ledger.used(self.counts)
 
@@ -231,7 +234,7 @@ class Passage:
             never = ", and the 'wait' doesn't end" if waits else ""
             has = "copy has" if self.missing == 1 else "copies have"
             yield 1, f"{self.missing:,} {has} no device{as_before}{never}"
-        full = self.past(self.used_after(), "backfillfull_ratio")
+        full = self.past(self.used_after, "backfillfull_ratio")
         if full:
             yield 1, f"{names_text(full)} {'gets' if len(full) == 1 else 'get'} past the backfill-full ratio"
         held = [it for it in NO_MOVES if it in self.maps.flags]
@@ -247,14 +250,14 @@ class Passage:
 
     def remarks(self):
         """Yields what else is to be said."""
-        way = self.past(self.used_on_the_way(), "backfillfull_ratio")
-        full = self.past(self.used_after(), "backfillfull_ratio")
+        way = self.past(self.used_on_the_way, "backfillfull_ratio")
+        full = self.past(self.used_after, "backfillfull_ratio")
         if way and not full:
             yield (
                 f"on the way {names_text(way)} may be past the backfill-full ratio: Ceph then holds some moves until "
                 "others are over"
             )
-        near = self.past(self.used_after(), "nearfull_ratio")
+        near = self.past(self.used_after, "nearfull_ratio")
         if near and not full:
             yield f"{names_text(near)} {'gets' if len(near) == 1 else 'get'} past near-full (a health warning)"
 

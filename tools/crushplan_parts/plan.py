@@ -1,12 +1,11 @@
 """`crushplan plan`: what the lines of a runbook do, step by step, before they are typed."""
-import fractions
 import pathlib
 
 from .commands_osd import await_clean
 from .drawing import Bar, Drawing, of_counts, place_of, ratios_of
 from .faults import counted
 from .follow import Follower
-from .output import Answer, Table, sized
+from .output import Answer
 from .passage import Ledger, Passage, entries_of
 from .plan_text import (
     Sums,
@@ -104,7 +103,7 @@ def follow_step(follower, ledger, number, step, maps, before, with_singles):
     for line in step.lines:
         at, event = follower.do(line, at)
         events.append(event)
-        down = [id_ for id_, it in at.osds.items() if not it.up and maps.osds.get(id_) and maps.osds[id_].up]
+        down = follower.taken_down(at)
         if with_singles and len(step.lines) > 1 and not event.ends():
             settled, *_ = follower.settled(at, down)
             following = follower.moment(settled)
@@ -146,7 +145,7 @@ def answer(plan_, ledger, steps, done, end, asked):
         "decides": decides
         and {"step": decides.number, "lines": [it.number for it in decides.step.lines], "why": first[1]},
     }
-    return Answer(status, sentence, fields, blocks, rows_of(done, asked.rate), lambda: drawn(plan_, whole))
+    return Answer(status, sentence, fields, blocks, rows_of(done, asked), lambda: drawn(plan_, whole))
 
 
 def sentence_of(status, first, done, steps, sums):
@@ -163,7 +162,7 @@ def sentence_of(status, first, done, steps, sums):
 
 def drawn(plan_, whole):
     """Returns the drawing of devices at the start and at the end."""
-    before, after = whole.ledger.used(whole.ledger.counts), whole.used_after()
+    before, after = whole.ledger.used(whole.ledger.counts), whole.used_after
     entries = [entries_of(it) for it in (whole.before, whole.after)]
     own = sorted(it for it in {*entries[0], *entries[1]} if entries[0][it] or entries[1][it])
     if own and all(it in after for it in own):

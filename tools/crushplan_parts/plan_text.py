@@ -1,12 +1,13 @@
-"""What `crushplan plan` writes: its sum, steps, lines, orders, and how the cluster looks at the step
-that decides."""
+"""What `crushplan plan` writes: its sum, steps, lines, orders, and how the cluster looks at the
+step that decides."""
+import collections
 import fractions
 
-from .output import Sized, Table, sized
+from .output import Table, sized
 from .passage import entries_of, groups_text
-from .reports import MOST_ROWS
+from .reports import listed
 from .shares import hundredths, rounded
-from .summary import ratio_said, shares_of, whole
+from .summary import ratio_said, whole
 
 MOST_DEVICES = 12  # of which it is said how full they are, the fullest first
 HEADS = [
@@ -26,6 +27,8 @@ HEADS = [
     "hours",
 ]
 
+GROUP_HEADS = ["step", "pool", "group", "id", "before", "after", "copies"]
+
 
 class Sums:
     """All steps together, beside the same change in one step."""
@@ -35,15 +38,15 @@ class Sums:
         self.steps, self.one_step, self.rate = own, one_step, rate
         groups = [(pool.id, group) for it in own for pool, group, *_ in it.moves]
         self.moved, self.copies = len(set(groups)), sum(it.copies for it in own)
-        self.twice = sorted({it for it in groups if groups.count(it) > 1}) if len(own) > 1 else []
+        self.twice = sorted(it for it, count in collections.Counter(groups).items() if count > 1)
         bytes_ = [it.bytes() for it in own]
         self.bytes = None if None in bytes_ else sum(bytes_, fractions.Fraction(0))
         hours = [it.hours(rate) for it in own] if rate else [None]
         self.hours = None if None in hours else sum(hours, fractions.Fraction(0))
         self.stopped = sorted({of for it in own for of in it.stopped})
         self.knows_room = one_step.ledger.looks
-        self.way = highest(own, lambda it: it.fullest(it.used_on_the_way(), it.written))
-        self.end = one_step.fullest(one_step.used_after())
+        self.way = highest(own, lambda it: it.fullest(it.used_on_the_way, it.written))
+        self.end = one_step.fullest(one_step.used_after)
 
 
 def highest(passages, level):
@@ -111,8 +114,8 @@ def steps_table(done, rate):
             least_text(own),
         ]
         row += [
-            level_text(plan, own.fullest(own.used_on_the_way(), own.written)),
-            level_text(plan, own.fullest(own.used_after())),
+            level_text(plan, own.fullest(own.used_on_the_way, own.written)),
+            level_text(plan, own.fullest(own.used_after)),
             own.missing,
             len(own.stopped),
         ]
@@ -150,7 +153,7 @@ def after_table(ledger, own, decides):
     """Returns how the cluster looks after a step: its fullest devices."""
     if own is None or not own.pools:
         return None
-    plan, used = own.after.plan, own.used_after()
+    plan, used = own.after.plan, own.used_after
     start, before, after = entries_of(ledger.start), ledger.used(ledger.counts), entries_of(own.after)
     devices = [it for it in {*start, *after} if start[it] or after[it]]
     devices.sort(key=lambda it: (-(used.get(it) or 0), -after[it], it))
@@ -179,7 +182,7 @@ def orders_of(it):
     found = []
     for name, own in both:
         bytes_ = [of.bytes() for of in own]
-        way = highest(own, lambda of: of.fullest(of.used_on_the_way(), of.written))
+        way = highest(own, lambda of: of.fullest(of.used_on_the_way, of.written))
         found.append(
             (
                 name,
@@ -269,8 +272,8 @@ def passage_said(own, rate):
         "copies": own.copies,
         "bytes": whole(own.bytes()),
         "least": rounded(least.numerator, least.denominator, 2),
-        "on_the_way": level_said(own.fullest(own.used_on_the_way(), own.written)),
-        "fullest": level_said(own.fullest(own.used_after())),
+        "on_the_way": level_said(own.fullest(own.used_on_the_way, own.written)),
+        "fullest": level_said(own.fullest(own.used_after)),
         "missing_copies": own.missing,
         "short": own.short,
         "below_min_size": own.stopped,
@@ -343,11 +346,17 @@ def order_said(it, rate):
     }
 
 
-def rows_of(done, rate):
-    """Yields the rows of the CSV: a line for each step."""
+def rows_of(done, asked):
+    """Yields the rows of the CSV: a line for each step, or for each group that moves in one."""
+    if asked.groups:
+        yield GROUP_HEADS
+        for it in done:
+            for pool, group, old, new, count in it.passage.moves:
+                yield [it.number, pool.id, group, pool.group_name(group), listed(old.up), listed(new.up), count]
+        return
     yield HEADS
     for it in done:
-        own = passage_said(it.passage, rate)
+        own = passage_said(it.passage, asked.rate)
         way, full = (own[key] or {} for key in ("on_the_way", "fullest"))
         yield [
             it.number,
