@@ -14,9 +14,9 @@ _crushplan_names() {
 
 _crushplan() {
     local word=${COMP_WORDS[COMP_CWORD]} before=${COMP_WORDS[COMP_CWORD - 1]} command= folder= options kind place=0 it
-    local commands="fetch check usage compare drain fail upmap locate help"
+    local commands="fetch check usage compare drain fail balance upmap locate help"
     local common="--help --json --csv --service --program --size --pg-num --min-size --allow-unplaced"
-    local valued=" --service --program --size --pg-num --min-size --ceph --mend --html --pool --by --each --class --group "
+    local valued=" --service --program --size --pg-num --min-size --ceph --mend --html --pool --by --each --class --group --deviation --moves --until-fill --for-bytes --lines "
     [ "$COMP_CWORD" -lt 2 ] || command=${COMP_WORDS[1]}
     case $command in
         fetch) options="--help --ceph" ;;
@@ -25,6 +25,7 @@ _crushplan() {
         compare) options="$common --html --groups" ;;
         drain) options="$common --html --class --by --groups" ;;
         fail) options="$common --html --class --each --by --groups" ;;
+        balance) options="$common --html --class --deviation --moves --until-fill --primaries --for-bytes --lines" ;;
         upmap) options="$common --html" ;;
         locate) options="$common --group" ;;
         help) options=$commands ;;
@@ -41,8 +42,8 @@ _crushplan() {
         --by:* | --each:*) kind=types ;;
         --class:*) kind=classes ;;
         --pool:*) kind=pools ;;
-        --program:* | --html:* | --mend:*) kind=files ;;
-        --service:* | --size:* | --pg-num:* | --min-size:* | --ceph:* | --group:*) kind=none ;;
+        --program:* | --html:* | --mend:* | --lines:*) kind=files ;;
+        --service:* | --size:* | --pg-num:* | --min-size:* | --ceph:* | --group:* | --deviation:* | --moves:* | --until-fill:* | --for-bytes:*) kind=none ;;
         *:-*) kind=options ;;
         *)
             case $command:$place in
@@ -50,7 +51,7 @@ _crushplan() {
                 help:*) kind=none ;;
                 *:0) kind=folders ;;
                 drain:* | fail:*) kind=items ;;
-                locate:1) kind=pools ;;
+                locate:1 | balance:*) kind=pools ;;
                 compare:1 | upmap:1) kind=files ;;
                 *) kind=none ;;
             esac

@@ -185,7 +185,7 @@ def zsh_shows(folder, typed, wanted):
 def zsh(runner, folder):
     """So has that of zsh, where there is a zsh; its commands and options are those of the help."""
     script = (PLAN.parent / "crushplan.zsh").read_text()
-    for name in ("fetch", "check", "usage", "compare", "drain", "fail", "upmap", "locate"):
+    for name in ("fetch", "check", "usage", "compare", "drain", "fail", "balance", "upmap", "locate"):
         wants(f"'{name}:" in script and f"        {name}) _arguments" in script, f"no {name}")
         for option in re.findall(r"--[a-z-]+", runner.run(name, "--help")[1].split("example: ")[0].split("options:")[1]):
             wants(f"{option}[" in script, f"no {option} of {name}")

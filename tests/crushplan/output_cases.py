@@ -12,7 +12,7 @@ import sys
 from made import ONE, STEPS, bucket, crush_dump, osd_dump, pool, rule, text_of, write
 from running import PLAN, SECONDS, equals, wants
 
-COMMANDS = ("fetch", "check", "usage", "compare", "drain", "fail", "upmap", "locate")
+COMMANDS = ("fetch", "check", "usage", "compare", "drain", "fail", "balance", "upmap", "locate")
 
 
 def usual(folder):
@@ -24,7 +24,7 @@ def words_of(folder):
     """A call of each command that computes."""
     return (
         ("check", folder), ("usage", folder), ("usage", folder, "--by", "host"), ("usage", folder, "--groups"), ("compare", folder, folder / "crush.json"), ("compare", folder, folder / "crush.json", "--groups"), ("drain", folder, "host0"),
-        ("drain", folder, "host0", "--groups"), ("fail", folder, "host0"), ("fail", folder, "host0", "--groups"), ("fail", folder, "--each", "host"), ("upmap", folder, folder / "list"), ("locate", folder, "photos", "a", "b"), ("locate", folder, "--group", "1.1f", "--group", "2.0"),
+        ("drain", folder, "host0", "--groups"), ("fail", folder, "host0"), ("fail", folder, "host0", "--groups"), ("fail", folder, "--each", "host"), ("balance", folder), ("upmap", folder, folder / "list"), ("locate", folder, "photos", "a", "b"), ("locate", folder, "--group", "1.1f", "--group", "2.0"),
     )  # fmt: skip
 
 
