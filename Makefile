@@ -233,6 +233,7 @@ python3 tests/ceph/check_exceptions ./crushcalc
 python3 tests/ceph/check_impacts ./crushcalc
 python3 tests/ceph/check_texts ./crushcalc build/crush_bench
 python3 tests/ceph/check_plan --program ./crushcalc --seed $(SEED) tools/crushplan
+python3 tests/ceph/check_balance --program ./crushcalc --seed $(SEED) tools/crushplan
 endef
 CHECK_cluster = python3 tests/cluster/check ./crushcalc --seed $(SEED)
 CHECK_prometheus = python3 tests/prometheus/check ./crushcalc

@@ -14,9 +14,9 @@ _crushplan_names() {
 
 _crushplan() {
     local word=${COMP_WORDS[COMP_CWORD]} before=${COMP_WORDS[COMP_CWORD - 1]} command= folder= options kind place=0 it
-    local commands="fetch check usage compare drain fail plan upmap locate metrics help"
+    local commands="fetch check usage compare drain fail plan balance upmap locate metrics help"
     local common="--help --json --csv --service --program --size --pg-num --min-size --allow-unplaced"
-    local valued=" --service --program --size --pg-num --min-size --ceph --mend --html --pool --by --each --class --group --rate --to "
+    local valued=" --service --program --size --pg-num --min-size --ceph --mend --html --pool --by --each --class --group --rate --to --deviation --moves --until-fill --for-bytes --lines "
     [ "$COMP_CWORD" -lt 2 ] || command=${COMP_WORDS[1]}
     case $command in
         fetch) options="--help --ceph" ;;
@@ -26,6 +26,7 @@ _crushplan() {
         drain) options="$common --html --class --by --groups" ;;
         fail) options="$common --html --class --each --by --groups" ;;
         plan) options="$common --html --rate --orders --groups" ;;
+        balance) options="$common --html --class --deviation --moves --until-fill --primaries --for-bytes --lines" ;;
         upmap) options="$common --html" ;;
         locate) options="$common --group" ;;
         metrics) options="$common --each --to" ;;
@@ -43,8 +44,8 @@ _crushplan() {
         --by:* | --each:*) kind=types ;;
         --class:*) kind=classes ;;
         --pool:*) kind=pools ;;
-        --program:* | --html:* | --mend:* | --to:*) kind=files ;;
-        --service:* | --size:* | --pg-num:* | --min-size:* | --ceph:* | --group:* | --rate:*) kind=none ;;
+        --program:* | --html:* | --mend:* | --to:* | --lines:*) kind=files ;;
+        --service:* | --size:* | --pg-num:* | --min-size:* | --ceph:* | --group:* | --rate:* | --deviation:* | --moves:* | --until-fill:* | --for-bytes:*) kind=none ;;
         *:-*) kind=options ;;
         *)
             case $command:$place in
@@ -52,7 +53,7 @@ _crushplan() {
                 help:*) kind=none ;;
                 *:0) kind=folders ;;
                 drain:* | fail:*) kind=items ;;
-                locate:1) kind=pools ;;
+                locate:1 | balance:*) kind=pools ;;
                 compare:1 | plan:1 | upmap:1) kind=files ;;
                 *) kind=none ;;
             esac

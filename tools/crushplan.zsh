@@ -13,7 +13,7 @@ _crushplan_names() {
 _crushplan() {
     local curcontext=$curcontext state line command program=${(Q)words[1]/#\~\//$HOME/}
     typeset -A opt_args
-    local -a commands common drawn changed
+    local -a commands common drawn until changed
     commands=(
         'fetch:writes the files of a cluster into a folder'
         'check:says what can be computed, and what not'
@@ -22,6 +22,7 @@ _crushplan() {
         'drain:says whether hosts, racks or devices can be drained'
         'fail:says what happens while they are down, and once they are out'
         'plan:says what the lines of a runbook do'
+        'balance:proposes upmap items that even out pools'
         'upmap:shows what a list of upmap commands does'
         'locate:shows where objects or groups lie'
         'metrics:writes what is watched, for Prometheus'
@@ -40,6 +41,12 @@ _crushplan() {
         '1:folder:_directories'
     )
     drawn=('--html[also writes a page with a drawing]:file:_files')
+    until=(
+        '(--moves --until-fill --primaries)--deviation[until each device is as near to its share]:number:'
+        '(--deviation --until-fill --primaries)--moves[by at most so many copies]:number:'
+        '(--deviation --moves --primaries)--until-fill[until no device is past so many percent]:number:'
+        '(--deviation --moves --until-fill)--primaries[evens out primaries instead]'
+    )
     changed=(
         '--class[the devices of a class alone]:class:->classes'
         '--by[usage by a type]:type:->types'
@@ -65,6 +72,8 @@ _crushplan() {
         drain) _arguments -C $common $drawn $changed ;;
         fail) _arguments -C $common $drawn $changed '--each[every item of a type in turn]:type:->types' ;;
         plan) _arguments -C $common $drawn '--rate[megabytes a second of a device]:number:' '--orders[tries other orders too]' '--groups[lists groups, in JSON and CSV]' '2:runbook:_files' ;;
+        balance) _arguments -C $common $drawn $until '--class[what rules take of a class alone]:class:->classes' \
+                '--for-bytes[percent of moves more for bytes]:number:' '--lines[writes the lines alone]:file:_files' '*:pool:->pools' ;;
         upmap) _arguments -C $common $drawn '2:list of commands:_files' ;;
         locate) _arguments -C $common '*--group[a group, as 5.1f]:group:' '2:pool:->pools' '*:object:' ;;
         metrics) _arguments -C $common '*--each[a type whose buckets fail in turn]:type:->types' '--to[writes into a file]:file:_files' ;;

@@ -24,7 +24,7 @@ def words_of(folder):
     """A call of each command that computes."""
     return (
         ("check", folder), ("usage", folder), ("usage", folder, "--by", "host"), ("usage", folder, "--groups"), ("compare", folder, folder / "crush.json"), ("compare", folder, folder / "crush.json", "--groups"), ("drain", folder, "host0"),
-        ("drain", folder, "host0", "--groups"), ("fail", folder, "host0"), ("fail", folder, "host0", "--groups"), ("fail", folder, "--each", "host"), ("upmap", folder, folder / "list"), ("locate", folder, "photos", "a", "b"), ("locate", folder, "--group", "1.1f", "--group", "2.0"),
+        ("drain", folder, "host0", "--groups"), ("fail", folder, "host0"), ("fail", folder, "host0", "--groups"), ("fail", folder, "--each", "host"), ("balance", folder), ("upmap", folder, folder / "list"), ("locate", folder, "photos", "a", "b"), ("locate", folder, "--group", "1.1f", "--group", "2.0"),
     )  # fmt: skip
 
 

@@ -2,7 +2,7 @@
 import signal
 import time
 
-from .balanced import Report, past
+from .balanced import GROUP_HEADS, Report, past
 from .balancing import Balancing, rule_fault
 from .faults import Fault, counted, some
 from .names import of_class
@@ -20,8 +20,12 @@ MOST_NAMED = 4
 class Watch:
     """Shows how far a search is, and ends it at Ctrl-C: a second one ends the program."""
 
-    def __init__(self, least):
-        self.bar, self.moves, self.at, self.is_over = Progress(max(least, 2), "moves"), 0, time.monotonic(), False
+    def __init__(self):
+        self.bar, self.moves, self.at, self.is_over = None, 0, time.monotonic(), False
+
+    def begin(self, least):
+        """Shows a bar of so many moves, at least."""
+        self.bar = Progress(max(least, 2), "moves")
 
     def __enter__(self):
         self.before = signal.signal(signal.SIGINT, self.stop)
@@ -29,7 +33,8 @@ class Watch:
 
     def __exit__(self, *_):
         signal.signal(signal.SIGINT, self.before)
-        self.bar.end()
+        if self.bar:
+            self.bar.end()
 
     def stop(self, *_):
         self.is_over = True
@@ -55,14 +60,20 @@ def balance(plan, asked):
         raise Fault("--until-fill wants df.json and osd-df.json, which say how full devices are")
     balancings = begun(plan, asked)
     if plan.doubt or not balancings:
-        return Answer(2, "" if plan.doubt else "unknown: no pool can be evened out.", {}, [], [[]])
+        return nothing(plan, "unknown: no pool can be evened out.")
     return Report(plan, asked, balancings, found(plan, asked, balancings)).answer()
+
+
+def nothing(plan, sentence):
+    """Returns the answer that has no lines: groups lie otherwise than computed, or no pool is left."""
+    return Answer(2, "" if plan.doubt else sentence, {"pools": [], "groups": [], "lines": []}, [], [GROUP_HEADS])
 
 
 def found(plan, asked, balancings):
     """Returns the proposal that is asked for."""
     waiting.at("searching")
-    with Watch(sum(it.least() for it in balancings)) as watch:
+    with Watch() as watch:
+        watch.begin(sum(it.least() for it in balancings))
         if asked.moves is not None:
             return within_moves(balancings, asked.moves, watch).even_bytes(asked.for_bytes, asked.moves)
         if asked.until_fill is not None:

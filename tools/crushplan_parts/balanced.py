@@ -111,7 +111,7 @@ class Report:
         return Answer(self.status(), self.sentence(), fields, blocks, [GROUP_HEADS, *rows], self.drawing)
 
     def status(self):
-        if any(it.open for it in self.plan.notes):
+        if lacks_pools(self.plan, self.asked):
             return 2
         return 1 if self.off or self.past_fill or not self.proposal.is_whole else 0
 
@@ -219,6 +219,11 @@ class Report:
         elif pool["staying_groups"]:
             why += f", and {counted(pool['staying_groups'], 'group')} can't change"
         return f"Of pool {pool['name']} {some(each, MOST_NAMED)}: {why}."
+
+
+def lacks_pools(plan, asked):
+    """Returns whether the answer lacks pools that were asked for: all, where none is named."""
+    return any(it.open for it in plan.notes if it.kind == "balance" or not asked.names)
 
 
 def clients_lines(plan, first, what):

@@ -6,7 +6,7 @@ import heapq
 import itertools
 
 MOST_TRIES = 40  # ways that are tried one after the other, of which a step bars another
-MOST_LOOKED_AT = 200  # groups of which the best is taken
+MOST_LOOKED_AT, MOST_IN_VAIN = 200, 4000  # groups of which the best is taken, and that may all be none
 
 
 class Ground:
@@ -345,21 +345,19 @@ class PartSearch(Search):
         copies lie on devices that have too many, if some of the first have that."""
         if self.zone[source] != self.zone[target]:
             return None
-        best, most, seen, own = None, None, 0, self.bit[target]
-        for groups in (self.moved[source], self.held[source]):
-            for group, place in groups.items():
-                if self.masks[group] & own:
-                    continue
-                gain = self.inner.gain_of(group, self.places[group][place])
-                if self.least_gain is not None and gain < self.least_gain:
-                    continue
-                if (most is None or gain > most) and self.inner.room_in(target, group, self.places[group][place]):
-                    best, most = group, gain
-                    if gain == len(self.places[group][place]):
-                        return best
-                seen += 1
-                if seen >= MOST_LOOKED_AT and best is not None:
-                    return best
+        best, most, own, least = None, float("-inf"), self.bit[target], self.least_gain
+        groups = itertools.chain(self.moved[source].items(), self.held[source].items())
+        for seen, (group, place) in enumerate(groups):
+            if best is not None and seen > MOST_LOOKED_AT or least is not None and seen > MOST_IN_VAIN:
+                break
+            if self.masks[group] & own:
+                continue
+            places = self.places[group][place]
+            gain = self.inner.gain_of(group, places)
+            if gain > most and (least is None or gain >= least) and self.inner.room_in(target, group, places):
+                best, most = group, gain
+                if gain == len(places):
+                    break
         return best
 
     def move(self, group, source, target):

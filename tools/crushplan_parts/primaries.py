@@ -2,8 +2,8 @@
 share asks for, as lines to type. No data moves: a primary goes to a device that has a copy."""
 import fractions
 
-from .balance import Watch, begun, note
-from .balanced import FARTHEST, clients_lines, fixed_text, lines_text, write_lines
+from .balance import Watch, begun, note, nothing
+from .balanced import FARTHEST, clients_lines, fixed_text, lacks_pools, lines_text, write_lines
 from .balancing import ceiling, cut_off, floor
 from .drawing import of_counts
 from .evening import Ground, Search
@@ -103,14 +103,15 @@ def primaries(plan, asked):
     wants_release(plan)
     balancings = [it for it in begun(plan, asked) if not left_out(plan, it)]
     if plan.doubt or not balancings:
-        return Answer(2, "" if plan.doubt else "unknown: no pool has primaries that can be evened out.", {}, [], [[]])
+        return nothing(plan, "unknown: no pool has primaries that can be evened out.")
     waiting.at("searching")
-    found, is_whole = [], True
-    with Watch(2) as watch:
+    is_whole = True
+    with Watch() as watch:
+        found = [Primaries(plan, it, watch) for it in balancings]
+        watch.begin(sum(it.least for it in found))
         try:
-            for it in balancings:
-                found.append(Primaries(plan, it, watch))
-                found[-1].search.even()
+            for it in found:
+                it.search.even()
         except Stopped:
             is_whole = False
     return answer(plan, asked, found, is_whole)
@@ -167,7 +168,7 @@ def answer(plan, asked, found, is_whole):
     off = [it for it in pools if it["off"]]
     if asked.lines:
         write_lines(asked.lines, lines)
-    status = 2 if any(it.open for it in plan.notes) else 1 if off or not is_whole else 0
+    status = 2 if lacks_pools(plan, asked) else 1 if off or not is_whole else 0
     fields = {"whole": is_whole, "changed": len(groups), "least": least, "pools": pools, "groups": groups}
     fields["lines"] = lines
     heads = ["pool", "group", "id", "primary_before", "primary_after", "line"]
