@@ -84,6 +84,8 @@ help:
 ## make cluster-check   starts real Ceph clusters on this machine, foretells by crushplan what drains,
 ##                failures, upmap items and changed maps of the seed SEED=S (the time) do to them,
 ##                does it, and compares: some 20 minutes
+## make manager-check      starts a real Ceph cluster of eight OSDs with the module crushplan in its
+##                manager: commands, health checks that appear and go, programs that fail
 ## make prometheus-check   tries the metrics and alerts by promtool, and by a real Prometheus that
 ##                scrapes a real node_exporter
 ## make http-check      compares replies of the server with those of scripts, by curl, nginx and
@@ -218,6 +220,7 @@ serve: build
 CEPH = $(shell sh bench/libceph)=librados2 crushtool=ceph-base osdmaptool=ceph-base gcc /usr/include/stdio.h=libc6-dev
 NEEDS_ceph = $(CEPH)
 NEEDS_cluster = ceph-mon ceph-mgr ceph-osd ceph=ceph-common crushtool=ceph-base python:rados=python3-rados
+NEEDS_manager = $(NEEDS_cluster) /usr/share/ceph/mgr/mgr_module.py=ceph-mgr-modules-core
 NEEDS_prometheus = promtool=prometheus prometheus prometheus-node-exporter systemd-analyze=systemd
 NEEDS_http = curl nginx openssl systemd-analyze=systemd ab=apache2-utils mkfs.btrfs=btrfs-progs nft=nftables python:jsonschema=python3-jsonschema python:yaml=python3-yaml /usr/share/openapi-specification=openapi-specification
 NEEDS_page = nginx openssl $(D3)=libjs-d3 chromium chromedriver=chromium-driver python:selenium=python3-selenium
@@ -236,10 +239,11 @@ python3 tests/ceph/check_plan --program ./crushcalc --seed $(SEED) tools/crushpl
 python3 tests/ceph/check_balance --program ./crushcalc --seed $(SEED) tools/crushplan
 endef
 CHECK_cluster = python3 tests/cluster/check ./crushcalc --seed $(SEED)
+CHECK_manager = python3 tests/manager/check ./crushcalc
 CHECK_prometheus = python3 tests/prometheus/check ./crushcalc
 CHECK_http = python3 tests/http/check ./crushcalc
 CHECK_page = /usr/bin/python3 tests/page/check ./crushcalc
-CHECK_package = python3 package/check build/package/*.deb $(BEFORE)
+CHECK_package = python3 package/check build/package/*_amd64.deb $(BEFORE)
 CHECK_sqlite = python3 tests/files/with_sqlite3 ./crushcalc
 CHECK_refused = python3 tests/allocations/check ./crushcalc 0
 CHECK_fuzz = python3 tests/fuzz/check ./crushcalc --inputs $(INPUTS) --seed $(SEED)
@@ -255,7 +259,7 @@ python3 tests/fuzz/check ./crushcalc --inputs 20000 --seed $(SEED) --cases build
 cd crates/crushcalc && $(RT) try --cases ../../build/sanitized -- script
 endef
 
-CHECKS = ceph cluster prometheus http page package sqlite refused fuzz sanitized stops kill
+CHECKS = ceph cluster manager prometheus http page package sqlite refused fuzz sanitized stops kill
 ceph-check: build/crush_bench
 package-check: package
 $(CHECKS:=-check): %-check: build

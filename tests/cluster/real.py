@@ -137,10 +137,13 @@ def awaited(found, what):
 
 class Cluster:
     """A cluster with the OSDs 0 .. osds-1, each up and in, in a map without buckets, with the
-    balancer at rest, or without it. A `with` ends it."""
+    balancer at rest, or without it. `modules` are others of the manager, folders that lie in its
+    own folder of modules or elsewhere, and `options` what they have by name. A `with` ends it."""
 
-    def __init__(self, folder, osds, balancer=False):
-        self.folder, self.osds, self.balancer = pathlib.Path(folder).resolve(), osds, balancer
+    def __init__(self, folder, osds, balancer=False, modules=(), options=()):
+        self.folder, self.osds = pathlib.Path(folder).resolve(), osds
+        self.modules = [*(["balancer"] if balancer else []), *modules]
+        self.options = {**({"balancer/active": "false"} if balancer else {}), **dict(options)}
         self.conf, self.processes, self.client = self.folder / "ceph.conf", {}, None
         try:
             self.start()
@@ -191,10 +194,11 @@ class Cluster:
     def start_manager(self):
         key = self.told("auth get-or-create", entity="mgr.x", caps=["mon", "allow profile mgr", "osd", "allow *", "mds", "allow *"])
         (self.folder / "mgr" / "keyring").write_text(key)
-        if self.balancer:
-            self.told("config set", who="mgr", name="mgr/balancer/active", value="false", force=True)
-            for it in ("mgr_module.py", "mgr_util.py", "balancer"):
-                (self.folder / "modules" / it).symlink_to(MODULES / it)
+        for name, value in self.options.items():
+            self.told("config set", who="mgr", name=f"mgr/{name}", value=value, force=True)
+        for it in [*(["mgr_module.py", "mgr_util.py"] if self.modules else []), *self.modules]:
+            path = MODULES / it  # which is `it` where that is a whole path
+            (self.folder / "modules" / path.name).symlink_to(path)
         self.spawn("mgr.x", "ceph-mgr", "-i", "x")
         awaited(lambda: self.asked("mgr dump")["available"], "the manager")
 
