@@ -53,8 +53,8 @@ pub(crate) fn first_change(alloc: Global) -> Result<Change, Fail>
     change_of(alloc, &state, command)
 }
 
-/// Answers an import by a tenant that has no receipt of it. `Err`: an allocation failed, or the call
-/// isn't read as a command.
+/// Answers an import by a tenant that has no receipt of it. `Err`: an allocation failed, or the
+/// call isn't read as a command.
 fn imported(alloc: Global, inventory: &Inventory) -> Result<Reply, Fail> {
     let routes = Routes::build(alloc)?;
     let Ok(request) = read_request(alloc, &routes, import_call()) else {
