@@ -3,7 +3,7 @@ import pathlib
 
 from .commands_osd import await_clean
 from .drawing import Bar, Drawing, of_counts, place_of, ratios_of
-from .faults import counted
+from .faults import counted, some
 from .follow import Follower
 from .output import Answer
 from .passage import Ledger, Passage, entries_of
@@ -76,7 +76,16 @@ def plan(plan_, asked):
     take_notes(plan_, follower, before.plan)
     warn_of_room(plan_)
     warn_of_flags(plan_)
+    warn_of_down(plan_, follower.maps)
     return answer(plan_, ledger, steps, done, before, asked)
+
+
+def warn_of_down(plan_, maps):
+    """Warns of OSDs that are down and in at the start: whether they go out meanwhile isn't
+    known."""
+    own = [f"osd.{id_}" for id_, it in sorted(maps.osds.items()) if not it.up and it.reweight]
+    if own and "noout" not in maps.flags:
+        plan_.cluster.warnings.append(f"down and in: {some(own)}; that Ceph may mark them out meanwhile isn't counted")
 
 
 def judge(plan_, start):
