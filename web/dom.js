@@ -17,6 +17,12 @@ export function el(tag, fields, ...children) {
     return made;
 }
 
+// A command in a text, of which no word is broken at its hyphen.
+export function command(text) {
+    const words = text.split(/(\S*-\S*)/);
+    return el("code", {}, words.map((it, at) => at % 2 ? el("span", { class: "whole" }, it) : it));
+}
+
 export function button(text, act, fields) {
     return el("button", { type: "button", ...fields, on: { click: act } }, text);
 }

@@ -34,16 +34,22 @@ export function keeper(map, mayBe) {
         }
         return found;
     });
-    // the weight of each device below what a rule takes, level by level: the last place counts
+    // the weight of each device below what a rule takes, level by level: the last place counts; Ceph
+    // divides each by what all weigh together, and where that is 0 none of them counts as 0
     const weights = (rule) => once(`weights ${rule.id}`, () => {
         const found = new Map();
         for (const name of takes(rule)) {
             const own = new Map(), queue = map.all.has(name) ? [map.all.get(name)] : [];
-            if (!queue.length) own.set(map.devices.get(name)?.id, 1);
-            for (const bucket of queue) for (const it of bucket.whole) if (it.bucket) queue.push(it.bucket); else own.set(
-                it.hole ? 0 : it.device.id, it.number
+            let total = 0;
+            function weigh(id, weight) {
+                own.set(id, weight);
+                total += weight;
+            }
+            if (!queue.length) weigh(map.devices.get(name)?.id, 1);
+            for (const bucket of queue) for (const it of bucket.whole) if (it.bucket) queue.push(it.bucket); else weigh(
+                it.hole ? 0 : it.device.id, it.number ?? 0
             );
-            for (const [id, weight] of own) found.set(id, (found.get(id) ?? 0) + weight);
+            for (const [id, weight] of own) found.set(id, (found.get(id) ?? 0) + (total ? weight : NaN));
         }
         return found;
     });
@@ -77,11 +83,15 @@ export function keeper(map, mayBe) {
         }
         return false;
     }
+    function weightless(rule, it) {
+        const weight = weights(rule).get(it);
+        return weight === undefined || weight === 0 || !mayBe(it) && !Number.isNaN(weight);
+    }
     function broken(rule, pool, items) {
         return rule.steps.some(
             (step) => (step[0] === "choose" || step[0] === "chooseleaf") && crowded(rule, pool, step, items)
         ) || outside(rule, pool,
-        items) || items.some((it) => it === null || !weights(rule).get(it) || !mayBe(it));
+        items) || items.some((it) => it === null || weightless(rule, it));
     }
     // the list as it is by a whole list and pairs; a list of which a device is out acts no more,
     // nor do the pairs then

@@ -3,7 +3,7 @@
 import { ask } from "./service.js";
 import { copiesOf, drop } from "./copies.js";
 import { meaning } from "./codes.js";
-import { button, csv, cut, el, fault, labelled, options, save, say, sayDone } from "./dom.js";
+import { button, command, csv, cut, el, fault, labelled, options, save, say, sayDone } from "./dom.js";
 import { removal } from "./removing.js";
 import { setStates } from "./sides.js";
 import { many } from "./words.js";
@@ -42,15 +42,15 @@ export function dropBox(take, more) {
         el("p", {}, el("span", { class: "choose" }, input, el("label", { for: "file" }, "or choose files"))),
         el(
             "p", { class: "hint" }, "On the cluster this writes them, and changes nothing: ",
-            el("code", {}, DUMPS)
+            command(DUMPS)
         ),
         el(
             "p", { class: "hint" },
-            "And what tells how full devices get, and whether groups lie as computed: ", el("code", {}, MORE)
+            "And what tells how full devices get, and whether groups lie as computed: ", command(MORE)
         ),
         el(
             "p", { class: "hint" }, "Or a map text alone, as ",
-            el("code", {}, "ceph osd getcrushmap -o map.bin && crushtool -d map.bin -o map.txt"),
+            command("ceph osd getcrushmap -o map.bin && crushtool -d map.bin -o map.txt"),
             " writes it: its weights are rounded to three decimals, and those of crush.json are exact."
         ),
         more
@@ -267,7 +267,7 @@ function lyingOf({ known }) {
             ? el(
                 "p", { class: "hint", id: "lying" },
                 "Whether each group lies as computed is known with pgs.json: ",
-                el("code", {}, "ceph pg dump pgs_brief -f json"), "."
+                command("ceph pg dump pgs_brief -f json"), "."
             )
             : null;
     const { text, lines, differ } = known.lying, said = `${text[0].toUpperCase()}${text.slice(1)}.`;

@@ -396,8 +396,11 @@ def empty_places_of_an_erasure_pool(page):
     page.browser.click("#which summary")
     page.browser.has("#groups tbody tr")
     short = lambda new: " a copy short" if None in new else ""
+    old, new, copies = parts_of(THREE), parts_of(FOUR), sum(it is not None for up in before.up for it in up)
+    least = float(copies * sum(part - old.get(it, 0) for it, part in new.items() if part > old.get(it, 0)))
+    figures = {**wanted_figures([change], new), "least": f"{least:,.1f}"}
     return first(
-        None if any(None in it for it in before.up) else "no place is empty", unlike(page.figures(), wanted_figures([change], parts_of(FOUR))),
+        None if any(None in it for it in before.up) else "no place is empty", unlike(page.figures(), figures),
         unlike(page.rows("#groups tbody tr"), {group: [f"1.{group:x}", names(one), names(other) + short(other)] for group, one, other in change.moves}),
     )
 

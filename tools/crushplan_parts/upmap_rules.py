@@ -1,5 +1,6 @@
 """What Ceph's monitors do with upmap items whenever a map changes, by OSDMap::check_pg_upmaps and
 CrushWrapper::verify_upmap of release 16: which items they remove."""
+import math
 
 
 def pair_remarks(raw, pairs, may_be):
@@ -110,7 +111,7 @@ class Keeper:
                 return "a place of it has no device"
             if it not in weights:
                 return f"osd.{it} isn't below what the rule takes"
-            if not weights[it] or not self.may_be(it):
+            if not weights[it] or not self.may_be(it) and not math.isnan(weights[it]):
                 return f"osd.{it} has no weight or is out"
         return None
 
@@ -145,21 +146,23 @@ class Keeper:
 
     def weights_of(self, rule):
         """Returns the weight of each device below what a rule takes, level by level: the last place
-        that has it counts, and a hole is osd.0 with the weight 0."""
+        that has it counts, and a hole is osd.0 with the weight 0. Ceph divides each by what all
+        weigh together; where that is 0 they are no numbers, and none of them counts as 0."""
         if rule.id not in self.weights:
             found = {}
             for root in rule.takes():
-                own, queue = {}, [root]
+                own, queue, total = {}, [root], 0
                 if root >= 0:
-                    own, queue = {root: 1}, []
+                    own, queue, total = {root: 1}, [], 1
                 while queue:
                     bucket = self.map.buckets[queue.pop(0)]
                     for item, weight in bucket.items:
                         if item is None or item >= 0:
                             own[item or 0] = weight
+                            total += weight
                         else:
                             queue.append(item)
                 for device, weight in own.items():
-                    found[device] = found.get(device, 0) + weight
+                    found[device] = found.get(device, 0) + (weight if total else math.nan)
             self.weights[rule.id] = found
         return self.weights[rule.id]
