@@ -57,17 +57,17 @@ class Proposal:
 
 
 class Ladder:
-    """All deviations from 1/2 on at which limits of some device change, by their place."""
+    """The deviation 1/2, and all above it at which limits of some device change, by their place."""
 
     def __init__(self, balancings):
         self.parts = sorted({fractions.Fraction(0)}.union(*(it.turns() for it in balancings)))
         greatest = max((it.deviation(it.ground.counts) for it in balancings), default=fractions.Fraction(0))
-        self.first = next((place for place, it in enumerate(self.parts) if it >= HALF), len(self.parts))
+        self.first = next((place for place, it in enumerate(self.parts) if it > HALF), len(self.parts)) - 1
         self.last = (ceiling(greatest) + 1) * len(self.parts)
 
     def at(self, place):
         whole, part = divmod(place, len(self.parts))
-        return whole + self.parts[part]
+        return max(HALF, whole + self.parts[part])
 
     def first_where(self, holds):
         """Returns the first place at which something holds that then holds at all that follow."""
