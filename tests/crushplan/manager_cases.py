@@ -23,6 +23,8 @@ MODULE = PLAN.parent / "mgr" / "crushplan" / "module.py"
 LOOKS, MOST_GROWTH = 50, 1 << 20  # of looks at a cluster, and bytes that they may leave
 EIO, EINVAL = -5, -22
 SHORT = 10  # seconds that a program may hang
+# of the replies of crushcalc that of a group with its first two devices in another order
+SWAPPED = r"s/^\(200 {.*\"group\":9,.*\"up\":\[\)\([0-9]*\),\([0-9]*\)/\1\3,\2/"
 
 
 class Manager:
@@ -145,6 +147,22 @@ def bad_programs(runner, folder):
         equals(f"{name}: {said}", (status, said.split()[0]), (EIO, "unknown:"))
         checks = module.looked()
         equals(f"{name}: {checks}", (list(checks), checks["CRUSHPLAN_PROGRAM"]["count"]), (["CRUSHPLAN_PROGRAM"], 2))
+
+
+def differing_program(runner, folder):
+    """A program that has one group elsewhere: a check has it, and each answer is unknown."""
+    usual(runner, folder)
+    program = scripted(folder, "lies", f"'{runner.program}' \"$@\" | sed '{SWAPPED}'")
+    module = module_on(runner, folder, program=str(program))
+    checks = module.looked()
+    of = runner.said("check", folder, "--program", program)["lying"]["others"]
+    equals("the groups", [it["id"] for it in of], ["1.9"])
+    line = f"1.9 up {of[0]['up']} primary {of[0]['up_primary']}, computed {of[0]['here']} {of[0]['here_primary']}"
+    equals("the check", checks["CRUSHPLAN_DIFFERS"]["detail"], [line])
+    summary = checks["CRUSHPLAN_CANT_FAIL"]["summary"]
+    wants(summary.startswith("unknown, since 1 group lies otherwise: "), summary)
+    status, said = told(module, "locate", group=["1.9"])
+    equals(said, (status, said.split()[0]), (0, "unknown:"))
 
 
 def hanging_program(runner, folder):
@@ -274,5 +292,8 @@ def releases(runner, folder):
 
 
 def cases():
-    own = (commands, refusals, bad_programs, hanging_program, ended, no_disk, looks, many_looks, runs_of_others, releases)
+    own = (
+        commands, refusals, bad_programs, differing_program, hanging_program, ended, no_disk, looks, many_looks,
+        runs_of_others, releases,
+    )  # fmt: skip
     return [(it.__name__, it) for it in own]
