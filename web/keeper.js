@@ -34,8 +34,8 @@ export function keeper(map, mayBe) {
         }
         return found;
     });
-    // the weight of each device below what a rule takes, level by level: the last place counts; Ceph
-    // divides each by what all weigh together, and where that is 0 none of them counts as 0
+    // the weight of each device below what a rule takes, level by level: the last place counts;
+    // Ceph divides each by what all weigh together, and where that is 0 none of them counts as 0
     const weights = (rule) => once(`weights ${rule.id}`, () => {
         const found = new Map();
         for (const name of takes(rule)) {

@@ -102,8 +102,8 @@ def named_clusters():
     yield Cluster("thousand", map_, [pool(1, 0, 3, 2048), pool(2, 1, 6, 512)], states=mixed_states(drawn, map_.devices, 0.02), removed=(40, 41, 500), upmaps=400)
     map_ = tree_of(PlanMap("straw2"), ["straw2"] * 3, racks=4, hosts=4, devices=4, weight=uneven(drawn))
     yield Cluster("straw2", map_, [*basic(), pool(9, 6, 3, 64)], states=mixed_states(drawn, map_.devices), removed=(5, 17), upmaps=30)
-    # a uniform bucket weighs 0 where crushtool has removed a device: once one of the last host weighs
-    # 0, all together do, and Ceph then counts no weight as 0
+    # a uniform bucket weighs 0 where crushtool has removed a device: once one of the last host
+    # weighs 0, all together do, and Ceph then counts no weight as 0
     map_ = hosts_of(PlanMap("weightless"), ("uniform", "uniform"), hosts=4, devices=3)
     yield Cluster("weightless", map_, [pool(1, 0, 2, 64)], removed=(1, 4, 7), upmaps=40, drains=[["osd.10"], ["host2"]])
     yield Cluster("straw2-and-others", tree_of(PlanMap("straw2-and-others"), ("straw2", "list", "straw2"), racks=5, hosts=3, devices=5), basic(), upmaps=10)

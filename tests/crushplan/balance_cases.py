@@ -72,8 +72,8 @@ def moved_again(runner, folder):
 
 
 def domains(runner, folder):
-    """No group gets two copies in a domain, nor a device of its raw list at another place; what can't
-    be reached stays."""
+    """No group gets two copies in a domain, nor a device of its raw list at another place; what
+    can't be reached stays."""
     domain = {"a": 1, "b": 2, "c": 1, "d": 2}
     found = searched([("a", "b")] * 3, {"a": 1, "b": 1, "c": 2, "d": 2}, {"a": 1, "b": 1, "c": 2, "d": 2}, domain)
     equals("copies", {it: found.count[it] for it in "abcd"}, {"a": 1, "b": 1, "c": 2, "d": 2})
@@ -111,8 +111,8 @@ def interrupted(runner, folder):
 
 
 def shares(runner, folder):
-    """Weights 5, 1, 1, 1 and two copies: by weight the first would have 5/4 of each group. It has 1,
-    and the others share one. At the weight 3 it would have 1 by weight."""
+    """Weights 5, 1, 1, 1 and two copies: by weight the first would have 5/4 of each group. It has
+    1, and the others share one. At the weight 3 it would have 1 by weight."""
     third = fractions.Fraction(1, 3)
     equals("capped", capped({1: 5, 2: 1, 3: 1, 4: 1}, 2)[0], {1: 1, 2: third, 3: third, 4: third})
     # hosts -2 of devices 0 and 1 that weigh 4 and 1, and -3, -4, -5 of one device each
@@ -270,8 +270,8 @@ def heavy(runner, folder):
 
 
 def left_out(runner, folder):
-    """What can't be evened out is named: pools that are split, rules that take a device by name, and
-    groups with a whole list."""
+    """What can't be evened out is named: pools that are split, rules that take a device by name,
+    and groups with a whole list."""
     crush = crush_dump()
     crush["rules"].append(rule(1, "by-name", ({"op": "take", "item": 0, "item_name": "osd.0"}, {"op": "emit"}, *STEPS)))
     pools = [pool(1, "photos", pg_num_target=128, pg_placement_num_target=128), pool(2, "mail", crush_rule=1), pool(3, "music")]

@@ -65,7 +65,8 @@ def balance(plan, asked):
 
 
 def nothing(plan, sentence):
-    """Returns the answer that has no lines: groups lie otherwise than computed, or no pool is left."""
+    """Returns the answer that has no lines: groups lie otherwise than computed, or no pool is
+    left."""
     return Answer(2, "" if plan.doubt else sentence, {"pools": [], "groups": [], "lines": []}, [], [GROUP_HEADS])
 
 
@@ -130,8 +131,8 @@ def all_placed(plan, pools):
 
 
 def kept_pairs(plan, pool, placements):
-    """Returns the pairs of a pool's groups that the monitors keep; groups whose pairs they don't lie
-    as they do once these are gone."""
+    """Returns the pairs of a pool's groups that the monitors keep; groups whose pairs they don't
+    lie as they do once these are gone."""
     found, changed = {}, []
     for group, pairs in plan.pairs[pool.id].items():
         list_ = plan.exceptions.lists.get(pool.id, {}).get(group)

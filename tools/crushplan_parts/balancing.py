@@ -55,7 +55,8 @@ class Balancing:
         rule, keeper = plan.map.rules[pool.rule], plan.keeper
         blocks = [it for it in blocks_of(plan.map, rule, pool.size) if it.places]
         self.blocks = [Zone(plan.map, lambda type_: keeper.domains_of(rule, type_), it, plan.state) for it in blocks]
-        # of each device that takes copies the place of its block and its upper domain: where its copies may go
+        # of each device that takes copies the place of its block and its upper domain: where its
+        # copies may go
         self.by_device = {}
         for place, it in enumerate(self.blocks):
             own = class_ is None or all(plan.map.classes.get(device) == class_ for device in it.weights)
@@ -88,7 +89,8 @@ class Balancing:
         self.ground = Ground(free, raws, fixed, self.by_device, domain)
 
     def of_whole(self, whole, items, raw, may_be):
-        """Returns what a whole list leaves of its group: where a device of it is out, the raw list."""
+        """Returns what a whole list leaves of its group: where a device of it is out, the raw
+        list."""
         return list(whole) if all(it is None or may_be(it) for it in whole) else list(raw)
 
     def may_change(self, items, raw, domain):
@@ -142,8 +144,8 @@ class Balancing:
         return [it for it in self.by_device if self.by_device[it][0] == place]
 
     def is_possible(self, deviation):
-        """Returns whether the numbers of a zone can sum up to its copies for a deviation: of several
-        upper domains copies go from one to another."""
+        """Returns whether the numbers of a zone can sum up to its copies for a deviation: of
+        several upper domains copies go from one to another."""
         low, high = self.limits(deviation)
         for place, _ in enumerate(self.blocks):
             own = self.of_block(place)

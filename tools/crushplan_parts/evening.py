@@ -307,8 +307,8 @@ class Search:
                     queue.append(it)
 
     def go(self, way, barred):
-        """Moves a copy along each step of a way, the last first, and returns True; or nothing, where
-        a step can't be done: it is barred then."""
+        """Moves a copy along each step of a way, the last first, and returns True; or nothing,
+        where a step can't be done: it is barred then."""
         done = []
         for source, target in reversed(list(zip(way, way[1:]))):
             group = self.group_for(source, target)

@@ -34,8 +34,8 @@ def items_of(balancing, search):
 
 
 def placed(plan, items):
-    """Returns where crushcalc says that groups lie with items, by pool and group; a Fault where that
-    isn't where the search had them."""
+    """Returns where crushcalc says that groups lie with items, by pool and group; a Fault where
+    that isn't where the search had them."""
     by_pool = {}
     for it in items:
         by_pool.setdefault(it.pool.id, {})[it.group] = it

@@ -35,8 +35,8 @@ class Proposal:
         return self
 
     def even_bytes(self, percent, most=None):
-        """Evens out the bytes of several pools by so many percent more moves, and at most so many in
-        all."""
+        """Evens out the bytes of several pools by so many percent more moves, and at most so many
+        in all."""
         room = self.cost * percent // 100
         if most is not None:
             room = min(room, most - self.cost)
@@ -98,8 +98,9 @@ def within_moves(balancings, most, watch):
 
 
 def until_fill(balancings, is_past, watch):
-    """Returns the proposal of the greatest deviation, of those rounded down and up and whole numbers,
-    after which no device is past a fill; if each leaves one, that of the shares rounded."""
+    """Returns the proposal of the greatest deviation, of those rounded down and up and whole
+    numbers, after which no device is past a fill; if each leaves one, that of the shares
+    rounded."""
     greatest = max((ceiling(it.deviation(it.ground.counts)) for it in balancings), default=0)
     low, high, best = 0, greatest, None
     while low <= high:

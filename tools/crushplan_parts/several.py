@@ -1,12 +1,12 @@
-"""Several pools that are evened out together: how full devices are by all of them, and which of them
-get the copy that a share leaves over."""
+"""Several pools that are evened out together: how full devices are by all of them, and which of
+them get the copy that a share leaves over."""
 from .summary import total
 
 
 class Fill:
-    """How full devices are by some pools, as a part of what they should have. A copy of a pool counts
-    by its bytes, or, where these aren't known, each as one. A pool counts by its shares until it is
-    evened out."""
+    """How full devices are by some pools, as a part of what they should have. A copy of a pool
+    counts by its bytes, or, where these aren't known, each as one. A pool counts by its shares
+    until it is evened out."""
 
     def __init__(self, balancings):
         self.known = total(it.pool.bytes for it in balancings) is not None
@@ -51,9 +51,9 @@ def in_order(balancings, fill):
 
 
 def even_out(pairs, fill, most, watch):
-    """Has the fullest device give a copy to an emptier one, within the limits of its pool, while that
-    helps: copies that move anyhow go elsewhere, and up to `most` others move too. `pairs` are pools
-    with their searches. Returns how many others do."""
+    """Has the fullest device give a copy to an emptier one, within the limits of its pool, while
+    that helps: copies that move anyhow go elsewhere, and up to `most` others move too. `pairs` are
+    pools with their searches. Returns how many others do."""
     extra = 0
     while len(pairs) > 1:
         device, level = fill.fullest()
@@ -70,7 +70,8 @@ def even_out(pairs, fill, most, watch):
 
 
 def best_change(pairs, fill, device, level, may_cost):
-    """Returns a copy that a device may give, and whom to: one that moves anyhow, if there is one."""
+    """Returns a copy that a device may give, and whom to: one that moves anyhow, if there is
+    one."""
     found = None
     emptiest = sorted(fill.has, key=lambda it: (fill.level(it), it))
     for balancing, search in pairs:
