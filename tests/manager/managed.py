@@ -133,12 +133,6 @@ class Managed:
         ran = subprocess.run([str(CRUSHPLAN), name, *rest, *own], input=given, **how)
         return ran.returncode, ran.stdout.decode(), ran.stderr.decode()
 
-    def ceph(self, *words):
-        """Returns the status of the command `ceph`, and what it says beside its answer."""
-        command = ["ceph", "-c", str(self.cluster.conf), *words]
-        done = subprocess.run(command, stdout=subprocess.PIPE, stderr=subprocess.PIPE, timeout=SECONDS)
-        return done.returncode, done.stderr.decode()
-
     # ---- health
 
     def checks(self):
