@@ -164,7 +164,7 @@ def helps(runner, folder):
 
 
 # the files of the help's examples, as they are made here
-EXAMPLE_FILES = {"july": "july", "mended.txt": "mended.txt", "new.txt": "new.txt", "commands.sh": "july/list", "july.prom": "july.prom"}
+EXAMPLE_FILES = {"july": "july", "mended.txt": "mended.txt", "new.txt": "new.txt", "commands.sh": "july/list", "july.prom": "july.prom", "runbook": "runbook"}
 
 
 def examples(runner, folder):
@@ -174,6 +174,7 @@ def examples(runner, folder):
     crush["buckets"][1]["alg"] = "tree"
     write(folder / "july", crush)
     (folder / "new.txt").write_text(text_of(crush_dump(devices=2)))
+    (folder / "runbook").write_text("ceph osd out 1\nwait\n")
     text = runner.run("--help")[1]
     found = re.findall(r"^  crushplan (\S.*?)(?:   .*)?$", text, re.M)
     wants(len(found) >= 4, f"too few examples: {found}")

@@ -207,7 +207,7 @@ def whole(runner, folder):
     ran = subprocess.run(["sh", "-c", command], stdout=subprocess.PIPE, stderr=subprocess.PIPE, env=runner.environment)
     equals("a file that may not be so large", (ran.returncode, ran.stdout), (2, b""))
     wants(f"crushplan: --html {path}: File too large\n" == ran.stderr.decode(), ran.stderr)
-    for target, words in ((folder / "none" / "page.html", "No such file or directory"), (folder, "it is there, and isn't a file"), ("/dev/null", "it is there, and isn't a file"), ("-", "a page is written into a file")):
+    for target, words in ((folder / "none" / "page.html", "No such file or directory"), (folder, "it is there, and isn't a file"), ("/dev/null", "it is there, and isn't a file"), ("-", "it is written into a file")):
         runner.refused("drain", folder, "host0", "--html", target, has=(f"--html {target}", words))
     equals("what was there", (path.read_text(), [it for it in os.listdir(folder) if it.endswith("part")]), ("what was there", []))
     link = folder / "link.html"
