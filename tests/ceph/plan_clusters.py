@@ -105,7 +105,7 @@ def named_clusters():
     # a uniform bucket weighs 0 where crushtool has removed a device: once one of the last host
     # weighs 0, all together do, and Ceph then counts no weight as 0
     map_ = hosts_of(PlanMap("weightless"), ("uniform", "uniform"), hosts=4, devices=3)
-    yield Cluster("weightless", map_, [pool(1, 0, 2, 64)], removed=(1, 4, 7), upmaps=40, drains=[["osd.10"], ["host2"]])
+    yield Cluster("weightless", map_, [pool(1, 0, 1, 64)], removed=(1, 4, 7), upmaps=40, drains=[["osd.10"], ["host2"]])
     yield Cluster("straw2-and-others", tree_of(PlanMap("straw2-and-others"), ("straw2", "list", "straw2"), racks=5, hosts=3, devices=5), basic(), upmaps=10)
 
 
