@@ -4,7 +4,6 @@ ghost use Rattle.std.specs.Prelude.{◌≡◌, ℕ, ◌<◌, ◌≤◌, ◌^◌,
 ghost use Rattle.crush_bucket.specs.Bucket.{HasEqualWeights, IsItemOf, item_at, total_weight};
 ghost use Rattle.crush_bucket.specs.Pick.{pick, perm_of, after_pick};
 ghost use Rattle.crush_bucket.specs.Private.Draw.{IsDrawOf, kind_of};
-ghost use Rattle.crush_bucket.specs.Private.Walks.{Keeps};
 ghost use Rattle.crush_hash.specs.Permutation.{no_id};
 
 use crate::eight::pick_side_by_side;
@@ -118,20 +117,7 @@ impl AnyBucket {
         self.items[place].0
     }
 
-    /// Returns the stored tree of a bucket that is known to be a tree.
-    #[inline]
-    pub(crate) fn stored_tree(&self) -> &Tree
-        requires kind { self.now.kind ≡ Kind.Tree }
-        requires some { 0 < length self.now.items }
-        ensures { Keeps self.now result.now.height result.now.nodes.items }
-    {
-        match &self.draw {
-            Draw::Tree(tree) => tree,
-            _ => unreachable!(),
-        }
-    }
-
-    /// Returns the bucket as a tree, where it is a tree bucket that has an item.
+    /// Returns the bucket with its tree, where it is a tree bucket that has an item.
     #[inline]
     pub(crate) fn tree(&self) -> Option<TreeRef<'_>>
         ensures { IfSome result (λ tree. tree ≡ self.now) }
@@ -140,7 +126,7 @@ impl AnyBucket {
             return None;
         }
         match &self.draw {
-            Draw::Tree(_) => Some(TreeRef::new(self)),
+            Draw::Tree(tree) => Some(TreeRef::new(self, tree)),
             _ => None,
         }
     }
@@ -160,7 +146,7 @@ impl AnyBucket {
         match &self.draw {
             Draw::Uniform => self.item(perm.member(x, asked_place(r, self.items.len()))),
             Draw::List(sums) => list_item(self.id, &self.items, sums, x, r),
-            Draw::Tree(_) => TreeRef::new(self).item(x, r),
+            Draw::Tree(tree) => TreeRef::new(self, tree).item(x, r),
             Draw::Straw2 => straw2_item(&self.items, x, r),
         }
     }
@@ -182,7 +168,7 @@ impl AnyBucket {
                 self.item(perms.member(number, self.id, size, x, asked_place(r, size)))
             }
             Draw::List(sums) => list_item(self.id, &self.items, sums, x, r),
-            Draw::Tree(_) => TreeRef::new(self).item(x, r),
+            Draw::Tree(tree) => TreeRef::new(self, tree).item(x, r),
             Draw::Straw2 => straw2_item(&self.items, x, r),
         }
     }
@@ -246,7 +232,10 @@ pub(crate) fn tree_item(bucket: &AnyBucket, x: u32, r: u32) -> ItemId
     ensures picked { result ≡ pick bucket.now x r }
     ensures item { IsItemOf bucket.now.items result }
 {
-    TreeRef::new(bucket).item(x, r)
+    match &bucket.draw {
+        Draw::Tree(tree) => TreeRef::new(bucket, tree).item(x, r),
+        _ => unreachable!(),
+    }
 }
 
 /// Picks as a bucket that is known to be straw2 does.

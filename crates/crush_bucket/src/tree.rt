@@ -3,13 +3,13 @@
 ghost use Rattle.std.specs.Prelude.{◌≡◌, ◌<◌, ◌+◌, ◌*◌, ◌^◌, ◌++◌, IfOk, length};
 ghost use Rattle.crush_bucket.specs.Bucket.{IsItemOf, total_weight};
 ghost use Rattle.crush_bucket.specs.Kinds.{height_of, place_within, tree_pick};
-ghost use Rattle.crush_bucket.specs.Private.Walks.{tree_height, IsNode, GoesOn, IsPickAt};
+ghost use Rattle.crush_bucket.specs.Private.Walks.{tree_height, IsNode, GoesOn, IsPickAt, Keeps};
 ghost use Rattle.crush_bucket.specs.Private.Kept.{AreNodes, node_weights};
 
 use crate::any::AnyBucket;
 use crate::descent::{child, down, last_down, places, two_down};
 use crate::sums::weight_within;
-use crush_types::{ItemId, Kind, Weight};
+use crush_types::{ItemId, Weight};
 use std::alloc::{AllocError, Global};
 use std::marker::Model;
 
@@ -36,41 +36,37 @@ impl Tree {
     }
 }
 
-/// A tree bucket that has an item. Contracts see the bucket.
+/// A tree bucket that has an item, with its tree. Contracts see the bucket.
 #[derive(Drop)]
 pub(crate) struct TreeRef<'a> {
     bucket: &'a AnyBucket,
+    tree: &'a Tree,
 }
 
 impl<'a> Model for TreeRef<'a> {
-    ghost use Rattle.std.specs.Prelude.{◌≡◌, ◌<◌, length};
-    ghost use Rattle.crush_types.specs.declared.Kind.TheVariants.{Tree};
     ghost use Rattle.crush_bucket.specs.Bucket.{BucketView};
+    ghost use Rattle.crush_bucket.specs.Private.Walks.{Keeps};
 
     ghost Value = { BucketView };
 
     ghost view = { λ a. a.bucket.now };
 
-    ghost invariant = { λ a. record {
-      kind : a.bucket.now.kind ≡ Tree;
-      some : 0 < length a.bucket.now.items;
-    } };
+    ghost invariant = { λ a. Keeps a.bucket.now a.tree.now.height a.tree.now.nodes.items };
 }
 
 impl<'a> TreeRef<'a> {
-    ghost use Rattle.std.specs.Prelude.{◌≡◌, ◌<◌, ◌+◌, ◌^◌, length};
+    ghost use Rattle.std.specs.Prelude.{◌≡◌, ◌+◌, ◌^◌};
     ghost use Rattle.crush_bucket.specs.Bucket.{IsItemOf};
     ghost use Rattle.crush_bucket.specs.Kinds.{place_within, tree_pick};
-    ghost use Rattle.crush_bucket.specs.Private.Walks.{tree_height, IsNode, GoesOn, IsPickAt};
+    ghost use Rattle.crush_bucket.specs.Private.Walks.{tree_height, IsNode, GoesOn, IsPickAt, Keeps};
 
-    /// Makes it of the bucket.
+    /// Makes the bucket with its tree.
     #[inline]
-    pub(crate) fn new(bucket: &'a AnyBucket) -> TreeRef<'a>
-        requires kind { bucket.now.kind ≡ Kind.Tree }
-        requires some { 0 < length bucket.now.items }
+    pub(crate) fn new(bucket: &'a AnyBucket, tree: &'a Tree) -> TreeRef<'a>
+        requires { Keeps bucket.now tree.now.height tree.now.nodes.items }
         ensures { result ≡ bucket.now }
     {
-        TreeRef { bucket }
+        TreeRef { bucket, tree }
     }
 
     /// Returns the bucket's id.
@@ -86,7 +82,7 @@ impl<'a> TreeRef<'a> {
     pub(crate) fn height(&self) -> u32
         ensures { result ≡ tree_height self.now }
     {
-        self.bucket.stored_tree().height
+        self.tree.height
     }
 
     /// Returns the root.
@@ -94,7 +90,7 @@ impl<'a> TreeRef<'a> {
     pub(crate) fn root(&self) -> u32
         ensures { result ≡ 2 ^ tree_height self.now }
     {
-        places(self.bucket.stored_tree().height) as u32
+        places(self.tree.height) as u32
     }
 
     /// Returns the child to which a node's hash leads where `left` levels are below the child. The
@@ -104,11 +100,10 @@ impl<'a> TreeRef<'a> {
         requires { IsNode self.now (left + 1) node }
         ensures { GoesOn self.now left node hash result }
     {
-        let tree = self.bucket.stored_tree();
-        if left >= tree.height {
+        if left >= self.tree.height {
             return node;
         }
-        child(&tree.nodes, hash, node as usize, places(left)) as u32
+        child(&self.tree.nodes, hash, node as usize, places(left)) as u32
     }
 
     /// Returns the item at a leaf's place, or the last item where it lies past the end.
@@ -124,10 +119,9 @@ impl<'a> TreeRef<'a> {
     fn place_for(&self, x: u32, r: u32) -> usize
         ensures { result ≡ place_within self.now.id self.now.items x r 0 (tree_height self.now) }
     {
-        let tree = self.bucket.stored_tree();
-        let (id, nodes) = (self.bucket.id(), tree.nodes.as_slice());
-        let mut node = places(tree.height);
-        let mut level = tree.height;
+        let (id, nodes) = (self.bucket.id(), self.tree.nodes.as_slice());
+        let mut node = places(self.tree.height);
+        let mut level = self.tree.height;
         while level > 2 {
             node = down(id, nodes, x, r, node, level);
             level -= 3;

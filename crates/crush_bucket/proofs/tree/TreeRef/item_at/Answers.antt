@@ -8,5 +8,5 @@ pub returns : goal.returns
 returns c =
     let b = c.self.inside.bucket.now in
     let place : c.min.result ≡ min (c.args.leaf / 2) (length b.items - 1) = omega (arith, c.size.ensures.value) in
-    let picked : IsPickAt b c.args.leaf c.item.result = way_ends b c.args.leaf c.item.result c.self.invariant.kind (c.item.ensures.value ∙ ap (λ n. item_at b.items n) place) c.item.ensures.item in
+    let picked : IsPickAt b c.args.leaf c.item.result = way_ends b c.args.leaf c.item.result c.self.invariant.tree (c.item.ensures.value ∙ ap (λ n. item_at b.items n) place) c.item.ensures.item in
     rw c.self.view_is at picked

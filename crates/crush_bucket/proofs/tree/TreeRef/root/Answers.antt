@@ -6,10 +6,12 @@ use Rattle.crush_bucket.proofs.tree.TreeRef.root.Goals as goal
 
 pub overflow_cast-result : goal.overflow_cast-result
 overflow_cast-result c =
-    let k : Keeps c.args.self.now c.stored_tree.result.now.height c.stored_tree.result.now.nodes.items = rw c.self.view_is at c.stored_tree.ensures in
+    let inside = c.self.inside in
+    let k : Keeps c.args.self.now inside.tree.now.height inside.tree.now.nodes.items = rw c.self.view_is at c.self.invariant in
     omega (arith, few_nodes (tree_height c.args.self.now) k.low, pow-succ' 2 (tree_height c.args.self.now), c.places.ensures ∙ ap (λ (h : ℕ). 2 ^ h) k.height_is)
 
 pub returns : goal.returns
 returns c =
-    let k : Keeps c.args.self.now c.stored_tree.result.now.height c.stored_tree.result.now.nodes.items = rw c.self.view_is at c.stored_tree.ensures in
+    let inside = c.self.inside in
+    let k : Keeps c.args.self.now inside.tree.now.height inside.tree.now.nodes.items = rw c.self.view_is at c.self.invariant in
     c.places.ensures ∙ ap (λ (h : ℕ). 2 ^ h) k.height_is
