@@ -66,7 +66,12 @@ def moved_again(runner, folder):
     found.move(0, "d", "a")
     equals("back at first", (found.cost, found.changed), (0, set()))
     # b has to give one, and can't give it to c: c's copy that came from a goes on to d
-    found = Search(ground, {"a": 0, "b": 0, "c": 1, "d": 2, "x": 1}, {"a": 0, "b": 0, "c": 1, "d": 2, "x": 1}, lambda device, count: count)
+    found = Search(
+        ground,
+        {"a": 0, "b": 0, "c": 1, "d": 2, "x": 1},
+        {"a": 0, "b": 0, "c": 1, "d": 2, "x": 1},
+        lambda device, count: count,
+    )
     found.even()
     equals("all", ({it: found.count[it] for it in "abcdx"}, found.cost), ({"a": 0, "b": 0, "c": 1, "d": 2, "x": 1}, 2))
 
@@ -84,7 +89,9 @@ def domains(runner, folder):
     equals("back to its own place", found.at, {0: ["c", "b"]})
     found = searched([("a", "b")], {"a": 0, "b": 1, "c": 1}, {"a": 0, "b": 1, "c": 1}, alone("abc"), raws=[("a", "c")])
     equals("not to another place of the raw list", found.at, {0: ["a", "b"]})
-    found = searched([("a", "b")], {"a": 0, "b": 1, "c": 1}, {"a": 0, "b": 1, "c": 1}, alone("abc"), zone={"a": 0, "b": 0, "c": 1})
+    found = searched(
+        [("a", "b")], {"a": 0, "b": 1, "c": 1}, {"a": 0, "b": 1, "c": 1}, alone("abc"), zone={"a": 0, "b": 0, "c": 1}
+    )
     equals("not to another zone", found.cost, 0)
 
 
@@ -104,7 +111,11 @@ def interrupted(runner, folder):
         wants(False, "it wasn't stopped")
     except Stopped:
         equals("moved", (found.cost, len(found.changed) <= 3), (3, True))
-    equals("counts", collections.Counter(it for own in found.at.values() for it in own), collections.Counter(+collections.Counter(found.count)))
+    equals(
+        "counts",
+        collections.Counter(it for own in found.at.values() for it in own),
+        collections.Counter(+collections.Counter(found.count)),
+    )
 
 
 # ---- shares by the rule
@@ -117,16 +128,25 @@ def shares(runner, folder):
     equals("capped", capped({1: 5, 2: 1, 3: 1, 4: 1}, 2)[0], {1: 1, 2: third, 3: third, 4: third})
     # hosts -2 of devices 0 and 1 that weigh 4 and 1, and -3, -4, -5 of one device each
     items = {-2: [(0, 4), (1, 1)], -3: [(2, 1)], -4: [(3, 1)], -5: [(4, 1)]}
-    buckets = {id_: Bucket(id_, f"host{-id_}", 1, "straw2", "0", [(it, weight * ONE) for it, weight in own]) for id_, own in items.items()}
+    buckets = {
+        id_: Bucket(id_, f"host{-id_}", 1, "straw2", "0", [(it, weight * ONE) for it, weight in own])
+        for id_, own in items.items()
+    }
     buckets[-1] = Bucket(-1, "default", 10, "straw2", "0", [(id_, it.weight()) for id_, it in list(buckets.items())])
-    map_ = CrushMap("made", False, {}, {it: f"osd.{it}" for it in range(5)}, {}, {0: "osd", 1: "host", 10: "root"}, buckets, {})
+    map_ = CrushMap(
+        "made", False, {}, {it: f"osd.{it}" for it in range(5)}, {}, {0: "osd", 1: "host", 10: "root"}, buckets, {}
+    )
     state = types.SimpleNamespace(up=True, reweight=ONE)
     host_of = {device: id_ for id_, own in items.items() for device, _ in own}
     zone = Zone(map_, lambda type_: host_of, Block(-1, 2, [(1, 2)]), lambda device: state)
     found = zone.shares(60, 30)
     equals("shares", found, {0: 24, 1: 6, 2: 10, 3: 10, 4: 10})
     heavy = zone.heavy()
-    equals("heavy", [(it.domain, it.by_weight, it.mended) for it in heavy], [(-2, fractions.Fraction(5, 4), fractions.Fraction(3, 5))])
+    equals(
+        "heavy",
+        [(it.domain, it.by_weight, it.mended) for it in heavy],
+        [(-2, fractions.Fraction(5, 4), fractions.Fraction(3, 5))],
+    )
     half = lambda device: types.SimpleNamespace(up=True, reweight=ONE // 2 if device == 0 else ONE)
     # 4 at the reweight 1/2 counts as 2: the host weighs 3, which isn't too heavy
     zone = Zone(map_, lambda type_: host_of, Block(-1, 2, [(1, 2)]), half)
@@ -137,16 +157,43 @@ def shares_of_two_levels(runner, folder):
     """Two racks are chosen of three that weigh 4, 2, 2, and two hosts in each: the first rack is in
     each group, the others in half of them. The first has a host of 2 and two of 1: in each part the
     first host has a copy, and each other one every second time."""
-    hosts = {-11: [(0, 1), (1, 1)], -12: [(2, 1)], -13: [(3, 1)], -21: [(4, 1)], -22: [(5, 1)], -31: [(6, 1)], -32: [(7, 1)]}
+    hosts = {
+        -11: [(0, 1), (1, 1)],
+        -12: [(2, 1)],
+        -13: [(3, 1)],
+        -21: [(4, 1)],
+        -22: [(5, 1)],
+        -31: [(6, 1)],
+        -32: [(7, 1)],
+    }
     racks = {-2: (-11, -12, -13), -3: (-21, -22), -4: (-31, -32)}
-    buckets = {id_: Bucket(id_, f"host{-id_}", 1, "straw2", "0", [(it, weight * ONE) for it, weight in own]) for id_, own in hosts.items()}
-    buckets.update({id_: Bucket(id_, f"rack{-id_}", 3, "straw2", "0", [(it, buckets[it].weight()) for it in own]) for id_, own in racks.items()})
+    buckets = {
+        id_: Bucket(id_, f"host{-id_}", 1, "straw2", "0", [(it, weight * ONE) for it, weight in own])
+        for id_, own in hosts.items()
+    }
+    buckets.update(
+        {
+            id_: Bucket(id_, f"rack{-id_}", 3, "straw2", "0", [(it, buckets[it].weight()) for it in own])
+            for id_, own in racks.items()
+        }
+    )
     buckets[-1] = Bucket(-1, "default", 10, "straw2", "0", [(id_, buckets[id_].weight()) for id_ in racks])
-    map_ = CrushMap("made", False, {}, {it: f"osd.{it}" for it in range(8)}, {}, {0: "osd", 1: "host", 3: "rack", 10: "root"}, buckets, {})
+    map_ = CrushMap(
+        "made",
+        False,
+        {},
+        {it: f"osd.{it}" for it in range(8)},
+        {},
+        {0: "osd", 1: "host", 3: "rack", 10: "root"},
+        buckets,
+        {},
+    )
     host_of = {device: id_ for id_, own in hosts.items() for device, _ in own}
     rack_of = {device: id_ for id_, own in racks.items() for host in own for device, _ in hosts[host]}
     state = types.SimpleNamespace(up=True, reweight=ONE)
-    zone = Zone(map_, lambda type_: {1: host_of, 3: rack_of}[type_], Block(-1, 4, [(3, 2), (1, 2)]), lambda device: state)
+    zone = Zone(
+        map_, lambda type_: {1: host_of, 3: rack_of}[type_], Block(-1, 4, [(3, 2), (1, 2)]), lambda device: state
+    )
     equals("shares", zone.shares(80, 20), {0: 10, 1: 10, 2: 10, 3: 10, 4: 10, 5: 10, 6: 10, 7: 10})
 
 
@@ -159,7 +206,9 @@ def lines_in(said):
     for line in said["lines"]:
         words = line.split()
         numbers = list(map(int, words[4:]))
-        found[int(words[3].split(".")[1], 16)] = list(zip(numbers[::2], numbers[1::2])) if words[2] == "pg-upmap-items" else []
+        found[int(words[3].split(".")[1], 16)] = (
+            list(zip(numbers[::2], numbers[1::2])) if words[2] == "pg-upmap-items" else []
+        )
     return found
 
 
@@ -187,9 +236,16 @@ def evened(runner, folder):
     equals("copies", entries(after), collections.Counter({it: 16 for it in range(12)}))
     wants(all(len({it // 3 for it in up}) == 3 for up in after.up), "two copies are in one host")
     equals("the least", (said["copies"], said["least"], said["pools"][0]["least"]), (bound(before, 16, 16),) * 3)
-    equals("groups", [(it["group"], it["after"]) for it in said["groups"]], [(group, after.up[group]) for group in sorted(lines_in(said))])
+    equals(
+        "groups",
+        [(it["group"], it["after"]) for it in said["groups"]],
+        [(group, after.up[group]) for group in sorted(lines_in(said))],
+    )
     text = runner.run("balance", folder)[1]
-    wants(f"{said['copies']} copies move by {len(said['lines'])} lines, and no list of items does it with fewer." in text, text)
+    wants(
+        f"{said['copies']} copies move by {len(said['lines'])} lines, and no list of items does it with fewer." in text,
+        text,
+    )
     wants(all(f"\n  {line}\n" in text for line in said["lines"]), text)
 
 
@@ -203,10 +259,17 @@ def read_again(runner, folder):
     upmap = runner.said("upmap", folder, folder / "lines", status=0)
     equals("what moves", (upmap["moved"], upmap["copies"]), (said["moved"], said["copies"]))
     osd = osd_dump()
-    osd["pg_upmap_items"] = [{"pgid": f"1.{group:x}", "mappings": [{"from": old, "to": new} for old, new in own]} for group, own in lines_in(said).items()]
+    osd["pg_upmap_items"] = [
+        {"pgid": f"1.{group:x}", "mappings": [{"from": old, "to": new} for old, new in own]}
+        for group, own in lines_in(said).items()
+    ]
     write(folder, crush, osd)
     again = runner.said("balance", folder, status=0)
-    equals("again", (again["lines"], again["answer"]), ([], "no copy has to move: each device has its share, rounded down or up."))
+    equals(
+        "again",
+        (again["lines"], again["answer"]),
+        ([], "no copy has to move: each device has its share, rounded down or up."),
+    )
     csv = runner.run("balance", folder, "--csv")[1].splitlines()
     equals("CSV", csv, ["pool,group,id,pairs,before,after,copies,line"])
 
@@ -240,11 +303,18 @@ def earlier_items(runner, folder):
     found = [(group, it) for group, own in enumerate(raw) for it in own if it in (1, 2)]
     osd["pg_upmap_items"] = [{"pgid": f"1.{group:x}", "mappings": [{"from": old, "to": 0}]} for group, old in found]
     other = next(group for group, own in enumerate(raw) if not {it // 3 for it in own} & {0})
-    osd["pg_upmap_items"].append({"pgid": f"1.{other:x}", "mappings": [{"from": raw[other][0], "to": raw[other][1] // 3 * 3 + (raw[other][1] + 1) % 3}]})
+    osd["pg_upmap_items"].append(
+        {
+            "pgid": f"1.{other:x}",
+            "mappings": [{"from": raw[other][0], "to": raw[other][1] // 3 * 3 + (raw[other][1] + 1) % 3}],
+        }
+    )
     write(folder, crush, osd)
     said = runner.said("balance", folder, status=0)
     pairs = dict(collections.ChainMap(lines_in(said), {group: [(old, 0)] for group, old in found}))
-    after = Placed(text_of(crush), pairs=[(group, old, new) for group, own in pairs.items() for old, new in own], **PHOTOS)
+    after = Placed(
+        text_of(crush), pairs=[(group, old, new) for group, own in pairs.items() for old, new in own], **PHOTOS
+    )
     equals("copies", entries(after), collections.Counter({it: 16 for it in range(12)}))
     wants(any(line.startswith("ceph osd rm-pg-upmap-items ") for line in said["lines"]), said["lines"])
     wants(any("Ceph removes items of 1 group" in it["text"] for it in said["notes"]), said["notes"])
@@ -262,8 +332,16 @@ def heavy(runner, folder):
         item["weight"] = weight
     write(folder, crush, osd_dump())
     said, text = runner.said("balance", folder), runner.run("balance", folder)[1]
-    equals("heavy", [(it["name"], it["by_weight"], it["weight"], it["mended"]) for it in said["heavy"]], [("host0", 2.0, 6.0, 1.499)])
-    wants("host0 is too heavy for size 3 by replicated_rule: its weight of 6.00 asks for 2.00 copies of each group, and it can have 1; at a weight of 1.50" in text, text)
+    equals(
+        "heavy",
+        [(it["name"], it["by_weight"], it["weight"], it["mended"]) for it in said["heavy"]],
+        [("host0", 2.0, 6.0, 1.499)],
+    )
+    wants(
+        "host0 is too heavy for size 3 by replicated_rule: its weight of 6.00 asks for 2.00 copies of each group, and it can have 1; at a weight of 1.50"
+        in text,
+        text,
+    )
     after = entries(placed_by(crush, said))
     # 64 copies of the heavy host, and 128 that nine devices share
     wants(all(after[it] in (21, 22) for it in range(3)) and all(after[it] in (14, 15) for it in range(3, 12)), after)
@@ -274,7 +352,11 @@ def left_out(runner, folder):
     and groups with a whole list."""
     crush = crush_dump()
     crush["rules"].append(rule(1, "by-name", ({"op": "take", "item": 0, "item_name": "osd.0"}, {"op": "emit"}, *STEPS)))
-    pools = [pool(1, "photos", pg_num_target=128, pg_placement_num_target=128), pool(2, "mail", crush_rule=1), pool(3, "music")]
+    pools = [
+        pool(1, "photos", pg_num_target=128, pg_placement_num_target=128),
+        pool(2, "mail", crush_rule=1),
+        pool(3, "music"),
+    ]
     osd = osd_dump(pools=pools)
     raw = Placed(text_of(crush), pool=3, size=3, pg_num=64).raw
     osd["pg_upmap"] = [{"pgid": "3.0", "osds": [it // 3 * 3 + (it + 1) % 3 for it in raw[0]]}]
@@ -282,7 +364,11 @@ def left_out(runner, folder):
     said = runner.said("balance", folder, status=2)
     equals("pools", [it["name"] for it in said["pools"]], ["music"])
     texts = " ".join(it["text"] for it in said["uncomputed"] + said["notes"])
-    for it in ("pool photos (1) isn't evened out: it is being split or merged", "pool mail (2) isn't evened out: its rule by-name takes a device by name", "1 group of pool music stays as it is"):
+    for it in (
+        "pool photos (1) isn't evened out: it is being split or merged",
+        "pool mail (2) isn't evened out: its rule by-name takes a device by name",
+        "1 group of pool music stays as it is",
+    ):
         wants(it in texts, texts)
     wants(0 not in {it["group"] for it in said["groups"]}, "the group of the whole list changes")
     equals("by its name alone", runner.said("balance", folder, "music", status=0)["lines"], said["lines"])
@@ -308,16 +394,28 @@ def classes(runner, folder):
         it["class"] = "ssd" if it["id"] < 12 else "hdd"
     root, hosts = crush["buckets"][0], crush["buckets"][1:]
     shadow = [{**copy.deepcopy(it), "id": -20 - at, "name": f"host{at}~ssd"} for at, it in enumerate(hosts[:4])]
-    top = {**copy.deepcopy(root), "id": -30, "name": "default~ssd", "items": [{"id": it["id"], "weight": 3 * ONE, "pos": at} for at, it in enumerate(shadow)]}
+    top = {
+        **copy.deepcopy(root),
+        "id": -30,
+        "name": "default~ssd",
+        "items": [{"id": it["id"], "weight": 3 * ONE, "pos": at} for at, it in enumerate(shadow)],
+    }
     crush["buckets"] += [*shadow, top]
     crush["rules"].append(rule(1, "ssd", ({"op": "take", "item": -30, "item_name": "default~ssd"}, *STEPS[1:])))
     write(folder, crush, osd_dump(24, pools=[pool(1, "photos", crush_rule=1), pool(2, "mail")]))
     said = runner.said("balance", folder, "--class", "ssd", status=2)
     equals("pools", [it["name"] for it in said["pools"]], ["photos"])
     wants("no take of its rule has devices of the class ssd alone" in said["uncomputed"][0]["text"], said["uncomputed"])
-    counts = collections.Counter(it for own in runner.said("usage", folder, "--pool", "photos", "--groups")["groups"] for it in own["up"])
+    counts = collections.Counter(
+        it for own in runner.said("usage", folder, "--pool", "photos", "--groups")["groups"] for it in own["up"]
+    )
     for it in said["groups"]:
-        counts.update({**{old: -1 for old in set(it["before"]) - set(it["after"])}, **{new: 1 for new in set(it["after"]) - set(it["before"])}})
+        counts.update(
+            {
+                **{old: -1 for old in set(it["before"]) - set(it["after"])},
+                **{new: 1 for new in set(it["after"]) - set(it["before"])},
+            }
+        )
     equals("copies", counts, collections.Counter({it: 16 for it in range(12)}))
     runner.refused("balance", folder, "--class", "sdd", has="no device of the class 'sdd'; the nearest is ssd")
 
@@ -327,15 +425,30 @@ def fills(runner, folder):
     crush = crush_dump()
     counts = entries(Placed(text_of(crush), **PHOTOS))
     most = max(counts, key=lambda it: (counts[it], -it))
-    room = {"nodes": [{"id": it, "name": f"osd.{it}", "kb": 100_000_000 // 1024, "kb_used": counts[it] * EACH // 1024} for it in range(12)]}
-    taken = {"stats": {}, "pools": [{"name": "photos", "id": 1, "stats": {"stored": 64 * EACH, "objects": 1, "bytes_used": 192 * EACH}}]}
+    room = {
+        "nodes": [
+            {"id": it, "name": f"osd.{it}", "kb": 100_000_000 // 1024, "kb_used": counts[it] * EACH // 1024}
+            for it in range(12)
+        ]
+    }
+    taken = {
+        "stats": {},
+        "pools": [{"name": "photos", "id": 1, "stats": {"stored": 64 * EACH, "objects": 1, "bytes_used": 192 * EACH}}],
+    }
     write(folder, crush, osd_dump(), df_json=taken, osd__df_json=room)
     equals("none is past it", runner.said("balance", folder, "--until-fill", counts[most] + 1, status=0)["copies"], 0)
     said = runner.said("balance", folder, "--until-fill", f"{counts[most] - 2}.5", status=0)
     after = entries(placed_by(crush, said))
-    wants(max(after.values()) <= counts[most] - 2 and 0 < said["copies"] < runner.said("balance", folder)["copies"], (counts, after))
+    wants(
+        max(after.values()) <= counts[most] - 2 and 0 < said["copies"] < runner.said("balance", folder)["copies"],
+        (counts, after),
+    )
     said = runner.said("balance", folder, "--until-fill", 10, status=1)
-    equals("past it all the same", (said["past_fill"], sorted(entries(placed_by(crush, said)).values())), (list(range(12)), [16] * 12))
+    equals(
+        "past it all the same",
+        (said["past_fill"], sorted(entries(placed_by(crush, said)).values())),
+        (list(range(12)), [16] * 12),
+    )
     (folder / "df.json").unlink()
     runner.refused("balance", folder, "--until-fill", 80, has="--until-fill wants df.json and osd-df.json")
 
@@ -344,25 +457,49 @@ def several(runner, folder):
     """Of two pools of which a device has 2 2/3 copies each, none gets the third copy of both where
     another gets of none."""
     crush = crush_dump()
-    pools = [pool(1, "photos", size=2, pg_num=16), pool(2, "mail", size=2, pg_num=16), pool(3, "music", size=2, pg_num=16)]
+    pools = [
+        pool(1, "photos", size=2, pg_num=16),
+        pool(2, "mail", size=2, pg_num=16),
+        pool(3, "music", size=2, pg_num=16),
+    ]
     write(folder, crush, osd_dump(pools=pools))
     said = runner.said("balance", folder, "--for-bytes", 100, status=0)
     counts = collections.Counter()
     for it in pools:
         counts.update(entries(Placed(text_of(crush), pool=it["pool"], size=2, pg_num=16)))
     for it in said["groups"]:
-        counts.update({**{old: -1 for old in set(it["before"]) - set(it["after"])}, **{new: 1 for new in set(it["after"]) - set(it["before"])}})
+        counts.update(
+            {
+                **{old: -1 for old in set(it["before"]) - set(it["after"])},
+                **{new: 1 for new in set(it["after"]) - set(it["before"])},
+            }
+        )
     equals("copies of all three, of 8", sorted(counts.values()), [8] * 12)
     equals("the fullest", said["fullest"]["after"]["percent"], 100.0)
     none = runner.said("balance", folder, "--for-bytes", 0, status=0)
-    equals("no move more than each pool wants", (none["extra"], none["copies"]), (0, sum(it["least"] for it in none["pools"])))
+    equals(
+        "no move more than each pool wants",
+        (none["extra"], none["copies"]),
+        (0, sum(it["least"] for it in none["pools"])),
+    )
 
 
 def primaries(runner, folder):
     """Each device ends with 5 or 6 of 64 primaries, and no copy moves."""
     crush = crush_dump()
     osd = {**osd_dump(pools=[pool(1, "photos"), pool(2, "parts", type=3, crush_rule=1)]), **NEWER}
-    crush["rules"].append(rule(1, "parts", ({"op": "take", "item": -1, "item_name": "default"}, {"op": "chooseleaf_indep", "num": 0, "type": "host"}, {"op": "emit"}), type_=3))
+    crush["rules"].append(
+        rule(
+            1,
+            "parts",
+            (
+                {"op": "take", "item": -1, "item_name": "default"},
+                {"op": "chooseleaf_indep", "num": 0, "type": "host"},
+                {"op": "emit"},
+            ),
+            type_=3,
+        )
+    )
     write(folder, crush, osd)
     up = Placed(text_of(crush), **PHOTOS).up
     said = runner.said("balance", folder, "--primaries", status=2)
@@ -379,12 +516,19 @@ def primaries(runner, folder):
     least = max(sum(max(0, before[it] - 6) for it in range(12)), sum(max(0, 5 - before[it]) for it in range(12)))
     equals("the least", (said["least"], said["changed"] >= least), (least, True))
     # with these there, and once more: none changes; without need one goes back
-    osd["pg_upmap_primaries"] = [{"pgid": line.split()[3], "primary_osd": int(line.split()[4])} for line in said["lines"]]
+    osd["pg_upmap_primaries"] = [
+        {"pgid": line.split()[3], "primary_osd": int(line.split()[4])} for line in said["lines"]
+    ]
     write(folder, crush, osd)
     equals("again", runner.said("balance", folder, "photos", "--primaries", status=0)["lines"], [])
     osd.update(require_osd_release="pacific")
     write(folder, crush, osd)
-    runner.refused("balance", folder, "--primaries", has="pg-upmap-primary is of release 18 (reef), and osd.json has require_osd_release pacific")
+    runner.refused(
+        "balance",
+        folder,
+        "--primaries",
+        has="pg-upmap-primary is of release 18 (reef), and osd.json has require_osd_release pacific",
+    )
 
 
 def refused(runner, folder):
@@ -397,17 +541,33 @@ def refused(runner, folder):
     ):  # fmt: skip
         runner.refused("balance", folder, *words, has=has)
     write(folder, crush_dump(), {**osd_dump(), "require_min_compat_client": "jewel"})
-    wants("First 'ceph osd set-require-min-compat-client luminous'" in runner.run("balance", folder)[1], "what older clients know")
+    wants(
+        "First 'ceph osd set-require-min-compat-client luminous'" in runner.run("balance", folder)[1],
+        "what older clients know",
+    )
     page = folder / "page.html"
     runner.run("balance", folder, "photos", "--html", page)
-    wants("ceph osd pg-upmap-items 1." in page.read_text() and "crushplan balance" in page.read_text(), "the page lacks the lines")
+    wants(
+        "ceph osd pg-upmap-items 1." in page.read_text() and "crushplan balance" in page.read_text(),
+        "the page lacks the lines",
+    )
 
 
 def doubted(runner, folder):
     """Where the cluster says that groups lie otherwise there are no lines."""
     crush = crush_dump()
     up = Placed(text_of(crush), **PHOTOS).up
-    rows = [{"pgid": f"1.{group:x}", "state": "active+clean", "up": it[::-1], "up_primary": it[-1], "acting": it, "acting_primary": it[0]} for group, it in enumerate(up)]
+    rows = [
+        {
+            "pgid": f"1.{group:x}",
+            "state": "active+clean",
+            "up": it[::-1],
+            "up_primary": it[-1],
+            "acting": it,
+            "acting_primary": it[0],
+        }
+        for group, it in enumerate(up)
+    ]
     cluster(folder, pgs__json={"pg_stats": rows})
     (folder / "pgs-json").rename(folder / "pgs.json") if (folder / "pgs-json").exists() else None
     code, out, _ = runner.run("balance", folder)
