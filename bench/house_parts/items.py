@@ -10,8 +10,6 @@ from typing import NamedTuple
 from house_parts.lexing import NAME, closed, up_to
 
 LIST, TUPLE = "[]", "()"
-# how many crates may show a name one after the other
-DEEPEST = 6
 
 
 @dataclasses.dataclass(eq=False)

@@ -31,9 +31,9 @@ def lines_by_sort(sources):
     for source in sources:
         last = 0
         for token, sort in sorted_tokens(source):
-            end = token.line + token.text.count("\n")
-            counts[sort] += max(0, end - max(last, token.line - 1))
-            last = max(last, end)
+            for line, text in enumerate(token.text.split("\n"), token.line):
+                counts[sort] += line > last and bool(text.strip())
+                last = max(last, line)
     return counts
 
 

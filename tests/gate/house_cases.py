@@ -126,7 +126,7 @@ TREE = {
     "crates/back/out/made.rt": "fn made() {}\n",
     "crates.txt": "# all\nback: sqlite_disk sqlite\nfront: back\nback_tests: back sqlite_disk\n",
     "tools/some": "#!/usr/bin/env python3\nimport os\n\nprint(os) # all\n",
-    "tools/other.py": '"""Two\nlines."""\n',
+    "tools/other.py": '"""Two\n\nlines."""\n',
     "web/page.js": "// a page\nlet a = 1;\n",
 }
 # what `bench/house` has to say of the lines and clauses of this tree
