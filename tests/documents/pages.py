@@ -61,7 +61,7 @@ MOST_LINES = {"README.md": 110, "docs/ARCHITECTURE.md": 130, "docs/STATUS.md": 4
 MOST_DEFINED = 25
 # how many words a page may have, or some pages together
 MOST_WORDS = (
-    (850, "README.md"), (1_960, "CHANGELOG.md"), (530, "CONTRIBUTING.md", "SECURITY.md"),
+    (860, "README.md"), (1_960, "CHANGELOG.md"), (530, "CONTRIBUTING.md", "SECURITY.md"),
     (2_840, "docs/PERFORMANCE.md", "docs/STATUS.md"), (4_500, "docs/ARCHITECTURE.md", "docs/DECISIONS.md"), (1_800, "docs/CHANGING.md"),
     (2_340, "bench/README.md", "tests/ceph/README.md"), (1_260, "tests/README.md"), (360, "tests/crushplan/README.md"),
     (2_060, "docs/BELIEVE.md"), (1_900, "docs/CLAUSES.md"), (6_200, "docs/DEFINITIONS.md"), (4_500, "docs/SERVING.md", "docs/STORE.md"),
