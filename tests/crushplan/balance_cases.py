@@ -338,7 +338,8 @@ def heavy(runner, folder):
         [("host0", 2.0, 6.0, 1.499)],
     )
     wants(
-        "host0 is too heavy for size 3 by replicated_rule: its weight of 6.00 asks for 2.00 copies of each group, and it can have 1; at a weight of 1.50"
+        "host0 is too heavy for size 3 by replicated_rule: its weight of 6.00 asks for 2.00 copies of each group, "
+        "and it can have 1; at a weight of 1.50"
         in text,
         text,
     )
@@ -535,9 +536,14 @@ def refused(runner, folder):
     """Bad words are named, and what clients have to know."""
     cluster(folder)
     for words, has in (
-        (("--moves", "x"), "'x' isn't a whole number"), (("--moves", "-1"), "'-1' isn't a whole number"), (("--deviation", "0.4"), "'0.4' isn't a number from 0.5 on"),
-        (("--deviation", "1/0"), "'1/0' isn't a number"), (("--until-fill", "101"), "'101' isn't a number from 0 to 100"), (("--moves", "3", "--deviation", "2"), "not allowed with"),
-        (("photo",), "there is no pool 'photo'; the nearest is photos"), (("--lines", "-"), "--lines -: it is written into a file"),
+        (("--moves", "x"), "'x' isn't a whole number"),
+        (("--moves", "-1"), "'-1' isn't a whole number"),
+        (("--deviation", "0.4"), "'0.4' isn't a number from 0.5 on"),
+        (("--deviation", "1/0"), "'1/0' isn't a number"),
+        (("--until-fill", "101"), "'101' isn't a number from 0 to 100"),
+        (("--moves", "3", "--deviation", "2"), "not allowed with"),
+        (("photo",), "there is no pool 'photo'; the nearest is photos"),
+        (("--lines", "-"), "--lines -: it is written into a file"),
     ):  # fmt: skip
         runner.refused("balance", folder, *words, has=has)
     write(folder, crush_dump(), {**osd_dump(), "require_min_compat_client": "jewel"})
@@ -577,8 +583,10 @@ def doubted(runner, folder):
 
 def cases():
     return (
-        ("direct", direct), ("ways", ways), ("moved_again", moved_again), ("domains", domains), ("interrupted", interrupted), ("shares", shares),
-        ("shares_of_two_levels", shares_of_two_levels), ("evened", evened), ("read_again", read_again), ("bounded", bounded), ("earlier_items", earlier_items),
-        ("heavy", heavy), ("left_out", left_out), ("down", down), ("classes", classes), ("fills", fills), ("several", several), ("primaries", primaries),
+        ("direct", direct), ("ways", ways), ("moved_again", moved_again), ("domains", domains),
+        ("interrupted", interrupted), ("shares", shares), ("shares_of_two_levels", shares_of_two_levels),
+        ("evened", evened), ("read_again", read_again), ("bounded", bounded), ("earlier_items", earlier_items),
+        ("heavy", heavy), ("left_out", left_out), ("down", down), ("classes", classes), ("fills", fills),
+        ("several", several), ("primaries", primaries),
         ("refused", refused), ("doubted", doubted),
     )  # fmt: skip
