@@ -6,7 +6,7 @@ ghost use Rattle.crush_bucket.specs.Pick.{pick, perm_of, after_pick};
 ghost use Rattle.crush_bucket.specs.Private.Draw.{IsDrawOf, kind_of};
 ghost use Rattle.crush_hash.specs.Permutation.{no_id};
 
-use crate::eight::pick_side_by_side;
+use crate::eight::pick_alike;
 use crate::list::{list_item, sums_of};
 use crate::straw2::straw2_item;
 use crate::tree::{Tree, TreeRef};
@@ -182,7 +182,7 @@ impl AnyBucket {
         ensures picked { (lane : ℕ) → lane < 8 → slice_index_or result lane no_id ≡ pick self.now (slice_index xs.now lane) r }
         ensures same { perm.new.of ≡ perm.old.of }
     {
-        if let Some(items) = pick_side_by_side(&[self; 8], xs, r) {
+        if let Some(items) = pick_alike(self, xs, r) {
             return items;
         }
         let mut items = [ItemId(0); 8];

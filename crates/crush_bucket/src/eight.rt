@@ -30,3 +30,15 @@ pub fn pick_side_by_side(buckets: &[&AnyBucket; 8], xs: &[u32; 8], r: u32) -> Op
         Kind::List | Kind::Straw2 => None,
     }
 }
+
+/// Picks the items of one bucket for eight inputs and one attempt, in the order of the inputs,
+/// where `pick_side_by_side` picks them. Allocates nothing.
+pub(crate) fn pick_alike(bucket: &AnyBucket, xs: &[u32; 8], r: u32) -> Option<[ItemId; 8]>
+    ensures { IfSome result (λ items. (lane : ℕ) → lane < 8 → IsPickedBy bucket.now (slice_index xs.now lane) r (slice_index_or items lane no_id)) }
+{
+    match bucket.kind() {
+        Kind::Tree => pick_trees(&[bucket; 8], xs, r),
+        Kind::Uniform => pick_uniforms(&[bucket; 8], xs, r),
+        Kind::List | Kind::Straw2 => None,
+    }
+}

@@ -1,12 +1,13 @@
 //! The buckets of a map, ready to be asked.
 
-ghost use Rattle.std.specs.Prelude.{◌≡◌, ◌<◌, ◌<ℤ◌, ◌==◌, ◌^◌, pos, IfOk, IfSome, OnSome, All, length, map};
+ghost use Rattle.std.specs.Prelude.{◌≡◌, ℕ, ◌<◌, ◌<ℤ◌, ◌==◌, ◌^◌, pos, IfOk, IfSome, IsTrue, OnSome, All, length, map, slice_index};
 ghost use Rattle.crush_bucket.specs.Bucket.{IsItemOf};
 ghost use Rattle.crush_bucket.specs.Ahead.{ArePicks};
 ghost use Rattle.crush_bucket.specs.Private.Ahead.{IsWidest};
 ghost use Rattle.crush_bucket.specs.Private.Laid.{IsFit};
 ghost use Rattle.crush_bucket.specs.Tables.{tables_of, typed_bucket, bucket_numbered, bucket_at, type_at, kind_at, size_at, pick_at, has_device, scratch_of, IsBelow, HasItemsBelow};
 
+use crate::eight::pick_alike;
 use crate::index::index_of;
 use crate::number::{BucketNo, index_place};
 use crate::scratch::Scratch;
@@ -92,6 +93,9 @@ impl Tables {
         ensures { IfSome result (λ items. ArePicks self.now buckets.now xs.now r items) }
     {
         let first = self.bucket(buckets[0])?;
+        if are_one(buckets) {
+            return pick_alike(first, xs, r);
+        }
         let mut asked = [first; 8];
         for lane in 1..8 {
             asked[lane] = self.bucket(buckets[lane])?;
@@ -201,6 +205,19 @@ impl Tables {
         }
         scratch.pick(&row.bucket, place, x, r)
     }
+}
+
+/// Returns whether eight numbers are of one bucket, as those are at which a rule begins.
+#[inline]
+fn are_one(buckets: &[BucketNo; 8]) -> bool
+    ensures { IsTrue result → (lane : ℕ) → lane < 8 → slice_index buckets.now lane ≡ slice_index buckets.now 0 }
+{
+    for lane in 1..8 {
+        if buckets[lane] != buckets[0] {
+            return false;
+        }
+    }
+    true
 }
 
 /// Makes the rows of a map's buckets.

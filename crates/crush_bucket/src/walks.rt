@@ -12,7 +12,9 @@ use crush_hash::hash4_each;
 use crush_types::ItemId;
 
 /// Picks the items of eight buckets for eight inputs and one attempt, in their order. `None`: one
-/// of them isn't a tree, or has no items. Allocates nothing.
+/// of them isn't a tree, or has no items. Allocates nothing. It stands whole where it is called, so
+/// that what the lanes of one tree share is read once.
+#[inline(always)]
 pub(crate) fn pick_trees(buckets: &[&AnyBucket; 8], xs: &[u32; 8], r: u32) -> Option<[ItemId; 8]>
     ensures { IfSome result (λ items. (lane : ℕ) (d : _) → lane < 8 → IsPickedBy (slice_index_or buckets.now lane d).now (slice_index xs.now lane) r (slice_index_or items lane no_id)) }
 {
@@ -31,6 +33,7 @@ pub(crate) fn pick_trees(buckets: &[&AnyBucket; 8], xs: &[u32; 8], r: u32) -> Op
 
 /// Picks the items of eight trees for eight inputs and one attempt, in their order. Allocates
 /// nothing.
+#[inline(always)]
 fn walk_down(trees: &[TreeRef<'_>; 8], xs: &[u32; 8], r: u32) -> [ItemId; 8]
     ensures { (lane : ℕ) (d : _) → lane < 8 → IsPickedBy (slice_index_or trees.now lane d) (slice_index xs.now lane) r (slice_index_or result lane no_id) }
 {

@@ -1,16 +1,10 @@
-use Rattle.std.proofs.Common.{◌≡◌, ℕ, slice_index, slice_index_or, subst, ◌∙◌, arith}
-use Rattle.std.proofs.lemmas.Simd.{get_or-replicate}
+use Rattle.std.proofs.Common.{◌≡◌, ℕ, slice_index, ◌∙◌, arith}
 use Rattle.std.proofs.lemmas.List.{length-set}
 use Rattle.crush_types.specs.declared.ItemId.{ItemId}
 use Rattle.crush_bucket.specs.Pick.{pick}
 use Rattle.crush_hash.specs.Permutation.{no_id}
 use Rattle.crush_hash.proofs.MemberLanes.{more_set}
 use Rattle.crush_bucket.proofs.any.AnyBucket.pick_eight.Goals as goal
-
-pub returns-in-Some-clause-picked : goal.returns-in-Some-clause-picked
-returns-in-Some-clause-picked c lane low =
-    let is = c.in-Some.ensures {u = tt} lane c.args.self low in
-    subst (λ t. slice_index_or c.in-Some.items lane no_id ≡ pick t.now (slice_index c.args.xs.now lane) c.args.r) (get_or-replicate 8 lane c.args.self c.args.self low) is.picked
 
 pub loop-lane-preserved : goal.loop-lane-preserved
 loop-lane-preserved c =

@@ -1,4 +1,4 @@
-use Rattle.std.proofs.Common.{◌≡◌, ℕ, ◌<◌, slice_index, slice_index_or, refl, ap, ◌∙◌, arith}
+use Rattle.std.proofs.Common.{◌≡◌, ℕ, ◌<◌, slice_index, slice_index_or, refl, ap, sym, ◌∙◌, arith}
 use Rattle.std.proofs.lemmas.Grind.{get_or_default_zero}
 use Rattle.std.proofs.lemmas.List.{length-set}
 use Rattle.crush_bucket.specs.Eight.{IsPickedBy}
@@ -8,6 +8,19 @@ use Rattle.crush_bucket.specs.Ahead.{ArePicks}
 use Rattle.crush_bucket.specs.Tables.{bucket_at}
 use Rattle.crush_bucket.proofs.Ahead.{lane_is, if_some}
 use Rattle.crush_bucket.proofs.tables.Tables.pick_eight.Goals as goal
+
+pub returns-then-are_one : goal.returns-then-are_one
+returns-then-are_one c =
+    let t = c.args.self.now in
+    let buckets = c.args.buckets.now in
+    let xs = c.args.xs.now in
+    let first = c.in_ok-first.first.now in
+    let number : slice_index_or buckets 0 c.index-buckets-0.result ≡ slice_index buckets 0 = get_or_default_zero buckets 0 c.index-buckets-0.result (omega arith) in
+    let here : first ≡ bucket_at t (slice_index buckets 0) = c.in_ok-first.ensures ∙ ap (λ (k : ℕ). bucket_at t k) number in
+    let one : (lane : ℕ) → lane < 8 → slice_index buckets lane ≡ slice_index buckets 0 = c.are_one.ensures c.if-are_one.true in
+    if_some (λ items. (lane : ℕ) → lane < 8 → IsPickedBy first (slice_index xs lane) c.args.r (slice_index_or items lane no_id)) (ArePicks t buckets xs c.args.r) c.pick_alike.result
+    (λ items is lane low. lane_is t (slice_index buckets lane) (slice_index xs lane) c.args.r first (slice_index_or items lane no_id) (here ∙ ap (λ (k : ℕ). bucket_at t k) (sym (one lane low))) (is lane low))
+    c.pick_alike.ensures
 
 pub loop-lane-init : goal.loop-lane-init
 loop-lane-init c =
