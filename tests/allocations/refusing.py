@@ -32,13 +32,22 @@ def compiled(name):
     splits at blanks and colons)."""
     compiler = next(filter(None, map(shutil.which, ("cc", "gcc", "clang"))), None)
     if compiler is None:
-        raise Unfit(f"there is no C compiler for {name}.c: install the package gcc, as by 'apt-get install gcc libc6-dev'")
+        raise Unfit(
+            f"there is no C compiler for {name}.c: install the package gcc, as by 'apt-get install gcc libc6-dev'"
+        )
     top = HERE.parent.parent
     (top / "build").mkdir(exist_ok=True)
     library, made = f"build/{name}.so", f"build/{name}.{os.getpid()}-{threading.get_ident()}.so"
-    ran = subprocess.run([compiler, "-O1", "-fPIC", "-shared", "-o", made, str(next(HERE.parent.glob(f"*/{name}.c"))), "-ldl"], cwd=top, stderr=subprocess.PIPE)
+    ran = subprocess.run(
+        [compiler, "-O1", "-fPIC", "-shared", "-o", made, str(next(HERE.parent.glob(f"*/{name}.c"))), "-ldl"],
+        cwd=top,
+        stderr=subprocess.PIPE,
+    )
     if ran.returncode != 0:
-        raise Unfit(f"{compiler} doesn't compile {name}.c (are the packages gcc and libc6-dev installed?): {ran.stderr.decode(errors='replace').strip()[:200]}")
+        raise Unfit(
+            f"{compiler} doesn't compile {name}.c (are the packages gcc and libc6-dev installed?):"
+            f" {ran.stderr.decode(errors='replace').strip()[:200]}"
+        )
     os.replace(top / made, top / library)
     return top, library
 
@@ -55,7 +64,9 @@ def refusing(allocation, mark, many=1):
 def refused_run(command, allocation, mark, seconds, stdin=None, many=1):
     """Runs a command with this allocation refused, and so many in a row."""
     refused = refusing(allocation, mark, many)
-    return subprocess.run(command, stdin=stdin, stdout=subprocess.PIPE, stderr=subprocess.PIPE, timeout=seconds, **refused)
+    return subprocess.run(
+        command, stdin=stdin, stdout=subprocess.PIPE, stderr=subprocess.PIPE, timeout=seconds, **refused
+    )
 
 
 def allocations_of(run):
@@ -69,7 +80,10 @@ def allocations_of(run):
         middle = (least + most) // 2
         least, most = (middle, most) if run(middle).mark is not None else (least, middle)
     if least == 0:
-        raise Unfit("no allocation was refused: is the program linked statically, or does it take its memory from elsewhere than malloc?")
+        raise Unfit(
+            "no allocation was refused: is the program linked statically, or does it take its memory from elsewhere"
+            " than malloc?"
+        )
     return least
 
 

@@ -20,7 +20,10 @@ TABLES = {
     "exceptions": ("pool", "place", "grp", "src", "dst"),
 }
 # what stands for a table of schema 2 in a file of schema 1, whose pools have no exceptions
-IN_SCHEMA_1 = {"pools_2": f"(SELECT tenant, {', '.join(POOL)}, 0 AS pairs FROM pools)", "exceptions": "(SELECT 0 AS tenant, 0 AS pool, 0 AS place, 0 AS grp, 0 AS src, 0 AS dst WHERE 0)"}
+IN_SCHEMA_1 = {
+    "pools_2": f"(SELECT tenant, {', '.join(POOL)}, 0 AS pairs FROM pools)",
+    "exceptions": "(SELECT 0 AS tenant, 0 AS pool, 0 AS place, 0 AS grp, 0 AS src, 0 AS dst WHERE 0)",
+}
 
 
 class Unsound(Exception):
@@ -29,7 +32,13 @@ class Unsound(Exception):
 
 def run_over(program, db, data):
     """Runs a script over a database file."""
-    return subprocess.run([program, "script", "--db", str(db)], input=data, stdout=subprocess.PIPE, stderr=subprocess.PIPE, timeout=SECONDS)
+    return subprocess.run(
+        [program, "script", "--db", str(db)],
+        input=data,
+        stdout=subprocess.PIPE,
+        stderr=subprocess.PIPE,
+        timeout=SECONDS,
+    )
 
 
 def files_at(db):
@@ -70,8 +79,11 @@ def schema_of(connection):
     tables = {name for name, in connection.execute("SELECT name FROM sqlite_schema WHERE type = 'table'")}
     if not tables:
         return None
-    (one, version), = connection.execute("SELECT one, version FROM schema_info").fetchall()
-    if one != 1 or ("pools" in tables, *(it in tables for it in IN_SCHEMA_1)) != ((version == 1), *(version == 2 for _ in IN_SCHEMA_1)):
+    ((one, version),) = connection.execute("SELECT one, version FROM schema_info").fetchall()
+    if one != 1 or ("pools" in tables, *(it in tables for it in IN_SCHEMA_1)) != (
+        (version == 1),
+        *(version == 2 for _ in IN_SCHEMA_1),
+    ):
         raise Unsound(f"the file says the version {version}, and has the tables {sorted(tables)}")
     return version
 
@@ -81,7 +93,10 @@ def held(db):
     schema 2 has them, be it a file of schema 1; of an empty file nothing."""
     with opened(db) as connection:
         try:
-            whole = connection.execute("PRAGMA integrity_check").fetchall(), connection.execute("PRAGMA foreign_key_check").fetchall()
+            whole = (
+                connection.execute("PRAGMA integrity_check").fetchall(),
+                connection.execute("PRAGMA foreign_key_check").fetchall(),
+            )
             if whole != ([("ok",)], []):
                 raise Unsound(f"the checks of the file say {whole}")
             if (schema := schema_of(connection)) is None:
@@ -90,7 +105,13 @@ def held(db):
             for number, name, epoch in connection.execute("SELECT id, name, epoch FROM tenants").fetchall():
                 found[name] = {"epoch": epoch}
                 for table, columns in TABLES.items():
-                    rows = connection.execute(f"SELECT {', '.join(columns)} FROM {sources.get(table, table)} WHERE tenant = ? ORDER BY {', '.join(columns)}", (number,))
+                    rows = connection.execute(
+                        (
+                            f"SELECT {', '.join(columns)} FROM {sources.get(table, table)} WHERE tenant = ? ORDER BY"
+                            f" {', '.join(columns)}"
+                        ),
+                        (number,),
+                    )
                     found[name][table] = rows.fetchall()
             return found
         except sqlite3.DatabaseError as error:

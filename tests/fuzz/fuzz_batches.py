@@ -29,12 +29,20 @@ class Found(Exception):
 def played(program, lines, *words):
     """The replies to lines, one each."""
     try:
-        ran = subprocess.run([program, "script", *words], input=b"".join(it + b"\n" for it in lines), stdout=subprocess.PIPE, stderr=subprocess.PIPE, timeout=SECONDS)
+        ran = subprocess.run(
+            [program, "script", *words],
+            input=b"".join(it + b"\n" for it in lines),
+            stdout=subprocess.PIPE,
+            stderr=subprocess.PIPE,
+            timeout=SECONDS,
+        )
     except subprocess.TimeoutExpired:
         raise Found(f"no end within {SECONDS} seconds") from None
     replies = ran.stdout.split(b"\n")[:-1]
     if (ran.returncode, ran.stderr) != (0, b"") or len(replies) != len(lines):
-        raise Found(f"status {ran.returncode}, standard error {short(ran.stderr)}, {len(replies)} replies to {len(lines)} lines")
+        raise Found(
+            f"status {ran.returncode}, standard error {short(ran.stderr)}, {len(replies)} replies to {len(lines)} lines"
+        )
     return replies
 
 
@@ -42,7 +50,12 @@ def formed(lines, replies):
     """Each reply is a status and compact JSON with its members in order, and none is a 503."""
     for line, reply in zip(lines, replies):
         it = REPLY.fullmatch(reply)
-        if not it or it[1] not in STATUSES or json.dumps(json.loads(it[2]), separators=(",", ":"), sort_keys=True, ensure_ascii=False).encode() != it[2]:
+        if (
+            not it
+            or it[1] not in STATUSES
+            or json.dumps(json.loads(it[2]), separators=(",", ":"), sort_keys=True, ensure_ascii=False).encode()
+            != it[2]
+        ):
             raise Found(f"the reply to {short(line)} is {short(reply)}")
 
 
@@ -80,7 +93,12 @@ def lines_batch(drawn, program, beside, cases, whole):
     if drawn.random() < 0.25:
         with tempfile.TemporaryDirectory() as folder:
             db, cut = str(pathlib.Path(folder, "t.db")), drawn.randrange(len(lines) + 1)
-            alike("over a file", lines, replies, played(program, lines[:cut], "--db", db) + played(program, lines[cut:], "--db", db))
+            alike(
+                "over a file",
+                lines,
+                replies,
+                played(program, lines[:cut], "--db", db) + played(program, lines[cut:], "--db", db),
+            )
     if drawn.random() < 0.25:
         sent = [it for it in lines if WHOLE.fullmatch(it)]
         with tempfile.TemporaryDirectory() as folder, Server(program, pathlib.Path(folder, "t.db")) as server:
@@ -98,7 +116,10 @@ def imported(program, texts, cases=None):
     replies = played(program, lines)
     formed(lines, replies)
     kept(cases, lines, replies)
-    return [(replies[it + 1], json.loads(replies[it + 2][4:])["text"].encode() if replies[it + 2][:3] == b"200" else None) for it in range(0, len(lines), 4)]
+    return [
+        (replies[it + 1], json.loads(replies[it + 2][4:])["text"].encode() if replies[it + 2][:3] == b"200" else None)
+        for it in range(0, len(lines), 4)
+    ]
 
 
 def texts_batch(drawn, program, beside, cases, texts):
@@ -107,7 +128,11 @@ def texts_batch(drawn, program, beside, cases, texts):
     for text, (reply, canonical) in zip(texts, found := imported(program, texts, cases)):
         answer = map_text.answer(text).split()
         want = hostile_cases.reply_to(answer)
-        if reply != want or (canonical is not None) != (answer[0] == "ok") or (canonical is not None and canonical != map_text.write(map_text.read(text))):
+        if (
+            reply != want
+            or (canonical is not None) != (answer[0] == "ok")
+            or (canonical is not None and canonical != map_text.write(map_text.read(text)))
+        ):
             raise Found(f"{short(text)}: {short(reply)}, and not {short(want)}; canonical {short(canonical or b'')}")
     again = [canonical if canonical is not None else text + b" # more" for text, (_, canonical) in zip(texts, found)]
     for text, before, after in zip(again, found, imported(program, again)):
@@ -115,7 +140,9 @@ def texts_batch(drawn, program, beside, cases, texts):
             raise Found(f"again, {short(text)}: {before}, and then {after}")
     if beside and imported(beside, texts) != found:
         raise Found("the other build reads these texts otherwise")
-    yield collections.Counter("map" if canonical is not None else reply.split(b'"')[7].decode() for reply, canonical in found)
+    yield collections.Counter(
+        "map" if canonical is not None else reply.split(b'"')[7].decode() for reply, canonical in found
+    )
 
 
 def picks_batch(drawn, program, beside, cases, bodies):
@@ -178,7 +205,7 @@ def split(got):
         head = HEAD.match(got)
         if head is None or closes or PHRASES.get(head[1]) != head[2] or head[1] == b"503":
             raise Found(f"a reply begins {short(got)}")
-        sent, got, closes = got[head.end():head.end() + int(head[3])], got[head.end() + int(head[3]):], head[4]
+        sent, got, closes = got[head.end() : head.end() + int(head[3])], got[head.end() + int(head[3]) :], head[4]
         formed([b""], [head[1] + b" " + sent])
         found.append(head[1].decode())
     return found
@@ -193,7 +220,9 @@ def streams_batch(drawn, program, beside, cases, whole):
     sent = [fuzzing.damaged(drawn, it) if drawn.random() < 0.8 else it for it in sent]
     yield [*sent, *[b""] * (sum(map(len, streams)) - len(sent))]
     statuses = collections.Counter()
-    with tempfile.TemporaryDirectory() as folder, Server(program, pathlib.Path(folder, "a.db")) as one, Server(beside or program, pathlib.Path(folder, "b.db")) as other:
+    with tempfile.TemporaryDirectory() as folder, Server(program, pathlib.Path(folder, "a.db")) as one, Server(
+        beside or program, pathlib.Path(folder, "b.db")
+    ) as other:
         for stream in sent:
             cuts = sorted({drawn.randrange(len(stream) + 1) for _ in range(drawn.choice((1, 5, 20)))})
             got, cut = answered(one, stream, ()), answered(other, stream, cuts)

@@ -43,7 +43,7 @@ def decimal(text):
 def whole(text):
     """A whole number; -0 and one past 64 bits are floats."""
     number = int(text)
-    return float(number) if text == "-0" or not -2**63 <= number < 2**64 else number
+    return float(number) if text == "-0" or not -(2**63) <= number < 2**64 else number
 
 
 def no_constant(text):
@@ -91,7 +91,9 @@ def pick_of(sent):
     text = sent.decode()
     if is_deep(text):
         raise Refused("nested too deep")
-    asked = json.loads(text, object_pairs_hook=Members, parse_float=decimal, parse_int=whole, parse_constant=no_constant)
+    asked = json.loads(
+        text, object_pairs_hook=Members, parse_float=decimal, parse_int=whole, parse_constant=no_constant
+    )
     has_exactly(asked, "bucket", "r", "x")
     bucket = asked["bucket"]
     has_exactly(bucket, "id", "items", "kind")
@@ -99,10 +101,18 @@ def pick_of(sent):
         raise Refused("items")
     for it in bucket["items"]:
         has_exactly(it, "item", "weight")
-    number, x, r = number_in(bucket, "id", -65536, -1), number_in(asked, "x", 0, 2**32 - 1), number_in(asked, "r", 0, 2**31 - 1)
+    number, x, r = (
+        number_in(bucket, "id", -65536, -1),
+        number_in(asked, "x", 0, 2**32 - 1),
+        number_in(asked, "r", 0, 2**31 - 1),
+    )
     row = [(number_in(it, "item", -65536, 65535), number_in(it, "weight", 0, 2**32 - 1)) for it in bucket["items"]]
     weights = [weight for _, weight in row]
-    if bucket["kind"] not in ("uniform", "list", "tree") or sum(weights) > 2**32 - 1 or (bucket["kind"] == "uniform" and len(set(weights)) > 1):
+    if (
+        bucket["kind"] not in ("uniform", "list", "tree")
+        or sum(weights) > 2**32 - 1
+        or (bucket["kind"] == "uniform" and len(set(weights)) > 1)
+    ):
         raise Refused("kind")
     if len({it for it, _ in row}) != len(row) or number in {it for it, _ in row}:
         raise Refused("items")

@@ -102,7 +102,10 @@ class Watch(threading.Thread):
 
 
 def write(path, rows):
-    lines = [f"{crate}\t{'tests' if tests else 'crate'}\t{seconds:.0f}\t{clock:.0f}\t{much >> 20}\n" for (crate, tests), (seconds, clock, much) in sorted(rows.items())]
+    lines = [
+        f"{crate}\t{'tests' if tests else 'crate'}\t{seconds:.0f}\t{clock:.0f}\t{much >> 20}\n"
+        for (crate, tests), (seconds, clock, much) in sorted(rows.items())
+    ]
     path.write_text("crate\tpart\tseconds of processor\tseconds of the clock\tMB\n" + "".join(lines))
 
 

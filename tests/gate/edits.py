@@ -106,7 +106,9 @@ def read(path, toolchain):
     by, seconds = TOOLCHAIN.search(text), SECONDS.search(text)
     if not by or logic(by[1]) != logic(toolchain):
         return {}, None
-    return {name: (where, digest) for name, where, digest in ROW.findall(text)}, tuple(map(int, seconds.groups())) if seconds else None
+    return {name: (where, digest) for name, where, digest in ROW.findall(text)}, (
+        tuple(map(int, seconds.groups())) if seconds else None
+    )
 
 
 def recorded(kept, toolchain):
@@ -150,7 +152,11 @@ class Record:
 
     def write(self, names):
         """Writes the rows of these edits; what is recorded of others is dropped."""
-        rows = [f"| `{name}` | {where} | {digest} |\n" for name, (where, digest) in sorted(self.rows.items()) if name in names]
+        rows = [
+            f"| `{name}` | {where} | {digest} |\n"
+            for name, (where, digest) in sorted(self.rows.items())
+            if name in names
+        ]
         text = HEAD.format(self.toolchain, *self.seconds) + "".join(rows)
         self.path.write_text(text)
         if self.file:

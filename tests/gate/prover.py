@@ -61,7 +61,17 @@ class Prover:
         for it in below(self.crates, crate):
             words += ["-L", f"dependency={library(self.top, it).parent}"]
         logic = self.kit / "rattle" / "logic" / "antt-project.json"
-        return [*words, "--antt-project", str(logic), "--logic-built", f"{self.kit}/logic_built", "--jobs", "1", "--links", f"{crate}="]
+        return [
+            *words,
+            "--antt-project",
+            str(logic),
+            "--logic-built",
+            f"{self.kit}/logic_built",
+            "--jobs",
+            "1",
+            "--links",
+            f"{crate}=",
+        ]
 
     def check(self, crate, texts, seed):
         """Checks the crate with these texts, by their paths in it, in place of its own, over
@@ -82,17 +92,45 @@ class Prover:
             said.seek(0)
             return running.returncode, said.read().decode(errors="replace"), used.ru_utime + used.ru_stime
 
-
     def program(self, crate, cpu, to):
         """Proves the crate of a program for this processor, over the libraries that are built, and
         builds it, as rt does. Gives the status and what was said."""
         toolchain = ["--toolchain", f"{self.kit}/toolchain"]
         steps = (
-            [f"{self.kit}/bin/rattle", "build", *self.words(crate), "--cpu", cpu, *toolchain, "--backend", "llvm", "-o", f"{to}.o"],
-            [f"{self.kit}/bin/rattle-link", "--target", "x86_64-unknown-linux-gnu", *toolchain, "-o", str(to), f"{to}.o", f"{self.kit}/c/libos_c.a", f"{self.kit}/c/liblibc_c.a"],
+            [
+                f"{self.kit}/bin/rattle",
+                "build",
+                *self.words(crate),
+                "--cpu",
+                cpu,
+                *toolchain,
+                "--backend",
+                "llvm",
+                "-o",
+                f"{to}.o",
+            ],
+            [
+                f"{self.kit}/bin/rattle-link",
+                "--target",
+                "x86_64-unknown-linux-gnu",
+                *toolchain,
+                "-o",
+                str(to),
+                f"{to}.o",
+                f"{self.kit}/c/libos_c.a",
+                f"{self.kit}/c/liblibc_c.a",
+            ],
         )
         for words in steps:
-            done = subprocess.run(words, cwd=self.top / "crates" / crate, stdin=subprocess.DEVNULL, stdout=subprocess.PIPE, stderr=subprocess.STDOUT, text=True, errors="replace")
+            done = subprocess.run(
+                words,
+                cwd=self.top / "crates" / crate,
+                stdin=subprocess.DEVNULL,
+                stdout=subprocess.PIPE,
+                stderr=subprocess.STDOUT,
+                text=True,
+                errors="replace",
+            )
             if done.returncode:
                 break
         return done.returncode, done.stdout

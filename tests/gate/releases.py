@@ -21,7 +21,10 @@ to = pathlib.Path(sys.argv[2], "v3.deb" if "--v3" in sys.argv else "v2.deb")
 to.parent.mkdir(parents=True, exist_ok=True)
 print(shutil.copy(sys.argv[1], to))
 """
-BUILDS = '#!/bin/sh\n[ "$1" = all ] || { mkdir -p out; cp ../crush_arguments/src/command.rt out/crushcalc; chmod +x out/crushcalc; }\n'
+BUILDS = (
+    '#!/bin/sh\n[ "$1" = all ] || { mkdir -p out; cp ../crush_arguments/src/command.rt out/crushcalc; chmod +x'
+    " out/crushcalc; }\n"
+)
 BUILDS_OTHERWISE = BUILDS + '[ "$1" = all ] || pwd >>out/crushcalc\n'
 FILES = {
     stamped.SOURCE: PROGRAM,
@@ -33,7 +36,14 @@ FILES = {
 
 
 def said_by(top, *words, rt="rt"):
-    return subprocess.run(list(map(str, words)), cwd=top, env=os.environ | {"RT": str(rt)}, stdout=subprocess.PIPE, stderr=subprocess.STDOUT, text=True)
+    return subprocess.run(
+        list(map(str, words)),
+        cwd=top,
+        env=os.environ | {"RT": str(rt)},
+        stdout=subprocess.PIPE,
+        stderr=subprocess.STDOUT,
+        text=True,
+    )
 
 
 def git(top, *words):
@@ -67,7 +77,9 @@ def gate_passes(top):
     for name in ("crushcalc", "build/crushcalc-v3"):
         shutil.copy2(copy / stamped.SOURCE, top / name)
     sums = said_by(top, "sha256sum", "crushcalc").stdout.split()[0]
-    (top / "build" / "proved.txt").write_text(f"commit: {commit}\nversion: 1.2.3\nprogram: sha256 {sums}\nprogram for x86-64-v3: sha256 {sums} (tried)\n")
+    (top / "build" / "proved.txt").write_text(
+        f"commit: {commit}\nversion: 1.2.3\nprogram: sha256 {sums}\nprogram for x86-64-v3: sha256 {sums} (tried)\n"
+    )
 
 
 def a_release_has_what_the_gate_built(folder):
@@ -80,7 +92,11 @@ def a_release_has_what_the_gate_built(folder):
     if sums.returncode or len(sums.stdout.splitlines()) != 3:
         return f"the sums: {sums.stdout}"
     packages = [(to / it).read_bytes() == (top / "crushcalc").read_bytes() for it in ("v2.deb", "v3.deb")]
-    return None if packages == [True, True] and (top / "build/proved.txt").read_text() in (to / "PROVED.txt").read_text() else "its files are others"
+    return (
+        None
+        if packages == [True, True] and (top / "build/proved.txt").read_text() in (to / "PROVED.txt").read_text()
+        else "its files are others"
+    )
 
 
 def made_by_dist(top, *words):
@@ -94,7 +110,9 @@ def unnamed(top):
     shutil.copy2(top / stamped.SOURCE, top / "crushcalc")
     (top / "crushcalc").chmod(0o755)
     sums = [said_by(top, "sha256sum", it).stdout.split()[0] for it in ("build/crushcalc-v3", "crushcalc")]
-    written(top / "build/proved.txt", lambda text: text.replace(f"program: sha256 {sums[0]}", f"program: sha256 {sums[1]}"))
+    written(
+        top / "build/proved.txt", lambda text: text.replace(f"program: sha256 {sums[0]}", f"program: sha256 {sums[1]}")
+    )
 
 
 def written(path, change):
@@ -115,10 +133,19 @@ def without_heading(top):
 REFUSALS = {
     "no record": (lambda top: (top / "build/proved.txt").unlink(), "there is no build/proved.txt"),
     "another commit": (committed, "and {} is checked out"),
-    "a changed file": (lambda top: written(top / "package/build", lambda text: text + "\n"), "the working tree has changes"),
+    "a changed file": (
+        lambda top: written(top / "package/build", lambda text: text + "\n"),
+        "the working tree has changes",
+    ),
     "a version that CHANGELOG lacks": (without_heading, "CHANGELOG.md has no heading of the version 1.2.3"),
-    "another program": (lambda top: written(top / "crushcalc", lambda text: text + "\n"), "crushcalc isn't the program that the proofs of build/proved.txt built"),
-    "another program for x86-64-v3": (lambda top: written(top / "build/crushcalc-v3", lambda text: text + "\n"), "build/crushcalc-v3 isn't the program"),
+    "another program": (
+        lambda top: written(top / "crushcalc", lambda text: text + "\n"),
+        "crushcalc isn't the program that the proofs of build/proved.txt built",
+    ),
+    "another program for x86-64-v3": (
+        lambda top: written(top / "build/crushcalc-v3", lambda text: text + "\n"),
+        "build/crushcalc-v3 isn't the program",
+    ),
     "a program that names no commit": (unnamed, "crushcalc --version doesn't name the commit"),
 }
 
@@ -128,7 +155,11 @@ def refused_after(change, reason, folder):
     change(top)
     made = made_by_dist(top)
     wanted = reason.format(git(top, "rev-parse", "--short=12", "HEAD"))
-    return None if made.returncode and wanted in made.stdout and not (top / "dist").exists() else f"status {made.returncode}: {made.stdout}"
+    return (
+        None
+        if made.returncode and wanted in made.stdout and not (top / "dist").exists()
+        else f"status {made.returncode}: {made.stdout}"
+    )
 
 
 def rebuilt(folder, builds, *words):
@@ -145,8 +176,15 @@ def a_rebuild_of_the_same_bytes_passes(folder):
     """The gate's program is the second build where it names its commit as is asked for."""
     stamp = rebuilt(folder / "1", BUILDS, "--stamp")
     plain = rebuilt(folder / "2", BUILDS)
-    found = [(run.returncode, run.stdout.splitlines()[-1], "The second build is the gate's" in run.stdout) for run in (stamp, plain)]
-    return None if found == [(0, "2 passed, 0 failed", True), (0, "2 passed, 0 failed", False)] else f"{found}: {stamp.stdout}{plain.stdout}"
+    found = [
+        (run.returncode, run.stdout.splitlines()[-1], "The second build is the gate's" in run.stdout)
+        for run in (stamp, plain)
+    ]
+    return (
+        None
+        if found == [(0, "2 passed, 0 failed", True), (0, "2 passed, 0 failed", False)]
+        else f"{found}: {stamp.stdout}{plain.stdout}"
+    )
 
 
 def a_release_is_rebuilt(folder):
@@ -162,7 +200,9 @@ def a_release_is_rebuilt(folder):
     (top / "dist/crushcalc-1.2.3/SHA256SUMS").unlink()
     run = built_by(top, folder / "rt", BUILDS, "--release", "dist/crushcalc-1.2.3")
     found.append((run.returncode, "it has no SHA256SUMS" in run.stdout))
-    return None if found == [(0, "2 passed, 0 failed"), (1, "0 passed, 2 failed"), (1, True)] else f"{found}: {run.stdout}"
+    return (
+        None if found == [(0, "2 passed, 0 failed"), (1, "0 passed, 2 failed"), (1, True)] else f"{found}: {run.stdout}"
+    )
 
 
 def a_rebuild_of_other_bytes_fails(folder):
@@ -172,6 +212,13 @@ def a_rebuild_of_other_bytes_fails(folder):
 
 def cases():
     for name, (change, reason) in REFUSALS.items():
-        yield f"a release is refused after {name}", lambda folder, change=change, reason=reason: refused_after(change, reason, folder)
-    for case in (a_release_has_what_the_gate_built, a_rebuild_of_the_same_bytes_passes, a_release_is_rebuilt, a_rebuild_of_other_bytes_fails):
+        yield f"a release is refused after {name}", lambda folder, change=change, reason=reason: refused_after(
+            change, reason, folder
+        )
+    for case in (
+        a_release_has_what_the_gate_built,
+        a_rebuild_of_the_same_bytes_passes,
+        a_release_is_rebuilt,
+        a_rebuild_of_other_bytes_fails,
+    ):
         yield case.__name__.replace("_", " "), case

@@ -28,7 +28,11 @@ COMPILER = re.compile(r"\berror\[[\w-]+\]")
 class Outcome:
     """What became of an edit: whether it was refused, where or why not, and in which way."""
 
-    TOGETHER, ALONE, LIMIT = "refused by a goal of its own function", "refused alone", "refused by a limit of the prover"
+    TOGETHER, ALONE, LIMIT = (
+        "refused by a goal of its own function",
+        "refused alone",
+        "refused by a limit of the prover",
+    )
 
     def __init__(self, way, where):
         self.way, self.where = way, where
@@ -84,8 +88,12 @@ class Said:
 
     def __init__(self, status, output):
         self.status, self.output = status, output
-        self.places = [(file, int(line), told) for file, line, told in PLACE.findall(output) if not told.startswith("warning")]
-        self.proofs = [(folder.split("/"), told) for folder, told in PROOF.findall(output) if not told.startswith("warning")]
+        self.places = [
+            (file, int(line), told) for file, line, told in PLACE.findall(output) if not told.startswith("warning")
+        ]
+        self.proofs = [
+            (folder.split("/"), told) for folder, told in PROOF.findall(output) if not told.startswith("warning")
+        ]
 
     def is_not_proved(self):
         return self.status == 1 and self.output.rstrip().split("\n")[-1].startswith("logic=not-proved")
@@ -96,14 +104,20 @@ class Said:
     def failed_itself(self):
         """The functions that aren't proved for more than what they call."""
         found = ((path, verdict, why.split("; ")) for path, verdict, why in FUNCTION.findall(self.output))
-        return [path for path, verdict, reasons in found if verdict != "no proof" or not all(map(OTHERS.match, reasons))]
+        return [
+            path for path, verdict, reasons in found if verdict != "no proof" or not all(map(OTHERS.match, reasons))
+        ]
 
     def own_goal(self, edit, text):
         """The goal of the edited function that refused the edit, or None."""
         name, first, last = lines_of(edit, text)
         module = edit.file.removeprefix("src/").removesuffix(".rt").split("/")
         own = [told for file, line, told in self.places if file == edit.file and first <= line <= last]
-        own += [told for folder, told in self.proofs if folder[-1] == name and (module[0] in ("lib", "main") or folder[: len(module)] == module)]
+        own += [
+            told
+            for folder, told in self.proofs
+            if folder[-1] == name and (module[0] in ("lib", "main") or folder[: len(module)] == module)
+        ]
         return f"`{name}`, {edit.file}: {goal_of(own)}" if own else None
 
     def first_goal(self):

@@ -30,8 +30,12 @@ class Description:
 
         self.whole = yaml.safe_load((TOP / "docs" / "openapi.yaml").read_text())
         self.validator, self.validators = jsonschema.Draft202012Validator, {}
-        self.operations = {it["operationId"]: (method.upper(), path, it, [self.at(p) for p in item.get("parameters", [])])
-                           for path, item in self.whole["paths"].items() for method, it in item.items() if method != "parameters"}
+        self.operations = {
+            it["operationId"]: (method.upper(), path, it, [self.at(p) for p in item.get("parameters", [])])
+            for path, item in self.whole["paths"].items()
+            for method, it in item.items()
+            if method != "parameters"
+        }
 
     def at(self, it):
         """What stands in the place of a reference."""
@@ -78,7 +82,11 @@ class Description:
 
     def longest(self):
         """The most bytes of a body, from the words."""
-        return int(re.search(r"over ([\d,]+) bytes", self.at({"$ref": "#/components/responses/TooLarge"})["description"])[1].replace(",", ""))
+        return int(
+            re.search(r"over ([\d,]+) bytes", self.at({"$ref": "#/components/responses/TooLarge"})["description"])[
+                1
+            ].replace(",", "")
+        )
 
 
 class Client:
@@ -135,7 +143,9 @@ class Client:
         if error == "bad_request":
             why = None if why else "the request is of its schemas"
         status = self.description.refusals(operation).get(error)
-        return why or self.unlike(self.description.content(operation, status), self.send(*request), status, {"error": error})
+        return why or self.unlike(
+            self.description.content(operation, status), self.send(*request), status, {"error": error}
+        )
 
     def usage(self, pool, devices):
         """Why the usage of a pool, on these devices, isn't what the words say of its rows."""
@@ -152,7 +162,9 @@ class Client:
 def session(client, text):
     """What the client does, each with why it isn't so, or None."""
     description = client.description
-    pool = description.operations["createPool"][2]["requestBody"]["content"]["application/json"]["examples"]["photos"]["value"]
+    pool = description.operations["createPool"][2]["requestBody"]["content"]["application/json"]["examples"]["photos"][
+        "value"
+    ]
     first = {"request": "map-1", "text": text}
     without_rules = text[: text.index("rule ")]
     yield "a tenant", client.done("createTenant", 201, {"epoch": 0, "tenant": "shop"}, t="shop")
@@ -160,8 +172,12 @@ def session(client, text):
     yield "a map, twice", client.done("importMap", 201, {"epoch": 1, "version": 1}, first, again=True, t="shop")
     # of the number of the refused request
     yield "a pool, twice", client.done("createPool", 201, {"epoch": 2, "pool": pool["id"]}, pool, again=True, t="shop")
-    yield "its usage", client.done("reportUsage", 200, {"epoch": 2, "pool": pool["id"], "version": 1}, t="shop", p=pool["id"])
-    yield "the rows of its usage", client.usage(pool, [int(it) for it in re.findall(r"^device (\d+) ", text, re.MULTILINE)])
+    yield "its usage", client.done(
+        "reportUsage", 200, {"epoch": 2, "pool": pool["id"], "version": 1}, t="shop", p=pool["id"]
+    )
+    yield "the rows of its usage", client.usage(
+        pool, [int(it) for it in re.findall(r"^device (\d+) ", text, re.MULTILINE)]
+    )
     other = {**pool, "id": 2, "name": "a", "request": "p-2"}
     bodies = {"createTenant": None, "importMap": first, "createPool": pool, "reportUsage": None}
     for operation in OPERATIONS:
@@ -169,23 +185,38 @@ def session(client, text):
         yield f"{operation}: too_large", client.refused(operation, "too_large", LENGTH_ALONE, t="shop", **more)
         yield f"{operation}: length", client.refused(operation, "length", CHUNKS, t="shop", **more)
         if operation != "createTenant":
-            yield f"{operation}: no_tenant", client.refused(operation, "no_tenant", bodies[operation], t="depot", **more)
+            yield f"{operation}: no_tenant", client.refused(
+                operation, "no_tenant", bodies[operation], t="depot", **more
+            )
     yield "createTenant: bad_request", client.refused("createTenant", "bad_request", t="a+b")
     yield "createTenant: exists", client.refused("createTenant", "exists", t="shop")
     yield "importMap: bad_request", client.refused("importMap", "bad_request", {"request": "map-2"}, t="shop")
-    yield "importMap: request_reused", client.refused("importMap", "request_reused", {**first, "text": without_rules}, t="shop")
-    yield "importMap: rule_in_use", client.refused("importMap", "rule_in_use", {"request": "map-2", "text": without_rules}, t="shop")
-    yield "importMap: map_refused", client.refused("importMap", "map_refused", {"request": "map-2", "text": "host {"}, t="shop")
+    yield "importMap: request_reused", client.refused(
+        "importMap", "request_reused", {**first, "text": without_rules}, t="shop"
+    )
+    yield "importMap: rule_in_use", client.refused(
+        "importMap", "rule_in_use", {"request": "map-2", "text": without_rules}, t="shop"
+    )
+    yield "importMap: map_refused", client.refused(
+        "importMap", "map_refused", {"request": "map-2", "text": "host {"}, t="shop"
+    )
     yield "createPool: bad_request", client.refused("createPool", "bad_request", {**other, "size": 0}, t="shop")
     yield "createPool: no_rule", client.refused("createPool", "no_rule", {**other, "rule": 7}, t="shop")
-    yield "createPool: request_reused", client.refused("createPool", "request_reused", {**other, "request": pool["request"]}, t="shop")
+    yield "createPool: request_reused", client.refused(
+        "createPool", "request_reused", {**other, "request": pool["request"]}, t="shop"
+    )
     yield "createPool: exists", client.refused("createPool", "exists", {**other, "name": pool["name"]}, t="shop")
     yield "reportUsage: bad_request", client.refused("reportUsage", "bad_request", t="shop", p="one")
     yield "reportUsage: no_pool", client.refused("reportUsage", "no_pool", t="shop", p=2)
-    yield "no refusal changed a thing", client.done("reportUsage", 200, {"epoch": 2, "version": 1}, t="shop", p=pool["id"])
+    yield "no refusal changed a thing", client.done(
+        "reportUsage", 200, {"epoch": 2, "version": 1}, t="shop", p=pool["id"]
+    )
     yield "importMap: tenant_limit", filled(client, without_rules)
     # refusals of no operation, whose statuses the words have
-    for name, error, status, method, path in (("NoPath", "no_path", 404, "GET", "/tenants"), ("Method", "method", 405, "PATCH", "/t/shop")):
+    for name, error, status, method, path in (
+        ("NoPath", "no_path", 404, "GET", "/tenants"),
+        ("Method", "method", 405, "PATCH", "/t/shop"),
+    ):
         content = description.content_of(description.whole["components"]["responses"][name])
         yield error, client.unlike(content, client.send(method, path), status, {"error": error})
 
@@ -195,7 +226,9 @@ def filled(client, text):
     most = client.description.at({"$ref": "#/components/schemas/Tenant"})["properties"]["versions"]["maximum"]
     why = client.done("createTenant", 201, None, t="full")
     for number in range(1, most + 1):
-        why = why or client.done("importMap", 201, {"version": number}, {"request": str(number), "text": text}, t="full")
+        why = why or client.done(
+            "importMap", 201, {"version": number}, {"request": str(number), "text": text}, t="full"
+        )
     return why or client.refused("importMap", "tenant_limit", {"request": "one-more", "text": text}, t="full")
 
 
@@ -203,7 +236,11 @@ def untried(description, names):
     """Refusals of the description that the session hasn't."""
     for operation in OPERATIONS:
         for error in description.refusals(operation):
-            if error not in OF_THE_MACHINE and (operation, error) not in LIKE_ANOTHER and f"{operation}: {error}" not in names:
+            if (
+                error not in OF_THE_MACHINE
+                and (operation, error) not in LIKE_ANOTHER
+                and f"{operation}: {error}" not in names
+            ):
                 yield f"{operation}: {error}"
 
 
@@ -216,7 +253,9 @@ def outcomes(program, folder):
 
 
 def checks(program, folder):
-    ran = subprocess.run([PYTHON, __file__, program, folder], stdout=subprocess.PIPE, stderr=subprocess.PIPE, timeout=10 * SECONDS)
+    ran = subprocess.run(
+        [PYTHON, __file__, program, folder], stdout=subprocess.PIPE, stderr=subprocess.PIPE, timeout=10 * SECONDS
+    )
     if ran.returncode:
         raise Unserved(f"the client ends with {ran.stderr.decode(errors='replace')[-400:]!r}")
     yield from json.loads(ran.stdout)

@@ -40,7 +40,13 @@ def worked(server):
 
 def prepare(port, folder, server):
     """A pool of ben's whose usage takes long, and a tenant of anna's; returns how long it takes."""
-    lines = [b"PUT /t/lab", *(it.replace(b"/t/a", b"/t/lab") for it in (import_of(one_list()), pool_of("p", size=SIZE, pg_num=GROUPS, pgp_num=GROUPS)))]
+    lines = [
+        b"PUT /t/lab",
+        *(
+            it.replace(b"/t/a", b"/t/lab")
+            for it in (import_of(one_list()), pool_of("p", size=SIZE, pg_num=GROUPS, pgp_num=GROUPS))
+        ),
+    ]
     found = [Client(port, folder, "ben").ask(it) for it in lines] + [Client(port, folder, "anna").ask(b"PUT /t/shop")]
     if not all(it.startswith(b"201 ") for it in found):
         raise Unserved(f"the replies are {found}")
@@ -60,7 +66,9 @@ def taken(port, folder, server, user, line, wanted):
 def opened(port, folder):
     """A TLS connection to nginx."""
     context = ssl.create_default_context(cafile=f"{folder}/certificate.pem")
-    return context.wrap_socket(socket.create_connection(("localhost", port), timeout=SECONDS), server_hostname="localhost")
+    return context.wrap_socket(
+        socket.create_connection(("localhost", port), timeout=SECONDS), server_hostname="localhost"
+    )
 
 
 def usage_message():
@@ -83,8 +91,15 @@ def given_up(port, folder, server, usage):
         list(pool.map(lambda _: give_up(port, folder), range(GIVEN_UP)))
     waited = taken(port, folder, server, "anna", b"GET /t/shop", there(b"shop"))
     usage = max(usage, taken_after_refusals(port, folder, server))
-    print(f"after {GIVEN_UP} usages of {usage:.1f} processor seconds that one tenant gave up, another's small request waited for {waited:.1f} of them")
-    return None if waited < 2 * usage + SLACK else f"anna waited for {waited:.1f} processor seconds, and a usage takes {usage:.1f}"
+    print(
+        f"after {GIVEN_UP} usages of {usage:.1f} processor seconds that one tenant gave up, another's small request"
+        f" waited for {waited:.1f} of them"
+    )
+    return (
+        None
+        if waited < 2 * usage + SLACK
+        else f"anna waited for {waited:.1f} processor seconds, and a usage takes {usage:.1f}"
+    )
 
 
 def taken_after_refusals(port, folder, server):
@@ -108,7 +123,9 @@ def two_at_a_time(port, folder):
         start = time.monotonic()
         third, spent = Client(port, folder, "ben").ask(b"GET /t/lab"), time.monotonic() - start
         found = [third, Client(port, folder, "anna").ask(b"GET /t/shop"), *(it.result() for it in both)]
-    if not (found[0].startswith(REFUSED) and found[1] == there(b"shop") and all(it.startswith(b"200 ") for it in found[2:])):
+    if not (
+        found[0].startswith(REFUSED) and found[1] == there(b"shop") and all(it.startswith(b"200 ") for it in found[2:])
+    ):
         return f"the replies are {[it[:100] for it in found]}"
     return None if spent < LEAST else f"the third waited for {spent:.1f} seconds"
 
@@ -116,9 +133,12 @@ def two_at_a_time(port, folder):
 def many_at_once(port, folder):
     """Small requests of one user that come at once: each is answered, or refused by nginx since two
     are under way, and answered when it is sent again."""
+
     def insistent(_):
         client = Client(port, folder, "anna")
-        return next(it for it in (client.ask(b"GET /t/shop") for _ in range(100 * AT_ONCE)) if not it.startswith(REFUSED))
+        return next(
+            it for it in (client.ask(b"GET /t/shop") for _ in range(100 * AT_ONCE)) if not it.startswith(REFUSED)
+        )
 
     with concurrent.futures.ThreadPoolExecutor(AT_ONCE) as pool:
         found = list(pool.map(insistent, range(AT_ONCE)))
@@ -127,6 +147,7 @@ def many_at_once(port, folder):
 
 def without_the_password(port, folder):
     """Who doesn't know anna's password takes none of her places."""
+
     def guess(_):
         return Client(port, folder, "anna", "guessed").ask(b"GET /t/shop")
 

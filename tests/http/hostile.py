@@ -43,6 +43,7 @@ def silent_after_a_message(server):
 def dripped(server, front, rest):
     """Sends these bytes at once, and of the others one a second: the client is let go 30 seconds
     after its first byte, though each byte comes in time."""
+
     def drip():
         try:
             for byte in rest:
@@ -138,7 +139,11 @@ def many_at_once(server):
     found = [replies_on(it) for it in clients]
     for it in clients:
         it.close()
-    return goes_on(server) if found == [([b'404 {"error":"no_tenant"}'], False)] * CLIENTS else f"the replies are {found[:3]} .."
+    return (
+        goes_on(server)
+        if found == [([b'404 {"error":"no_tenant"}'], False)] * CLIENTS
+        else f"the replies are {found[:3]} .."
+    )
 
 
 def half_closes(server):
@@ -156,7 +161,12 @@ def half_closes(server):
 
 def other_protocols(server):
     """The first bytes of TLS, of HTTP/2, of SSH and of noise are no message."""
-    for data in (b"\x16\x03\x01\x02\x00\x01\x00\x01\xfc\x03\x03" + bytes(500), b"PRI * HTTP/2.0\r\n\r\nSM\r\n\r\n", b"SSH-2.0-OpenSSH_9.2p1\r\n", bytes(range(256)) * 40):
+    for data in (
+        b"\x16\x03\x01\x02\x00\x01\x00\x01\xfc\x03\x03" + bytes(500),
+        b"PRI * HTTP/2.0\r\n\r\nSM\r\n\r\n",
+        b"SSH-2.0-OpenSSH_9.2p1\r\n",
+        bytes(range(256)) * 40,
+    ):
         with server.connect() as connection:
             connection.sendall(data)
             connection.shutdown(socket.SHUT_WR)
@@ -166,7 +176,18 @@ def other_protocols(server):
     return goes_on(server)
 
 
-CASES = (nothing_is_said, silent_after_a_message, a_byte_a_second, a_byte_of_a_body_a_second, never_reads, reads_a_little, many_resets, many_at_once, half_closes, other_protocols)
+CASES = (
+    nothing_is_said,
+    silent_after_a_message,
+    a_byte_a_second,
+    a_byte_of_a_body_a_second,
+    never_reads,
+    reads_a_little,
+    many_resets,
+    many_at_once,
+    half_closes,
+    other_protocols,
+)
 
 
 def checks(program, folder):

@@ -9,7 +9,12 @@ PYTHON, SECONDS = "/usr/bin/python3", 600
 
 
 def checks(program, folder):
-    ran = subprocess.run([PYTHON, TOP / "tests" / "http" / "described", program, folder], stdout=subprocess.PIPE, stderr=subprocess.PIPE, timeout=SECONDS)
+    ran = subprocess.run(
+        [PYTHON, TOP / "tests" / "http" / "described", program, folder],
+        stdout=subprocess.PIPE,
+        stderr=subprocess.PIPE,
+        timeout=SECONDS,
+    )
     for line in ran.stdout.splitlines():
         yield json.loads(line)
     if ran.returncode:

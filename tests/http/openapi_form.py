@@ -11,7 +11,12 @@ FIELD = re.compile(r'^<a name="\w+"></a> *(\S.*?) *(?<!\\)\| *(.*?) *(?<!\\)\| *
 NAMED = re.compile(r"\[[^\]]*\]\(#(\w+Object)\)")
 SCHEMA, REFERENCE = "schemaObject", "referenceObject"
 # names of patterned fields, as the tables write them
-PATTERNS = {"/{path}": r"/.*", "[HTTP Status Code](#httpCodes)": r"[1-5](\d\d|XX)", "{name}": r".*", "{expression}": r".*"}
+PATTERNS = {
+    "/{path}": r"/.*",
+    "[HTTP Status Code](#httpCodes)": r"[1-5](\d\d|XX)",
+    "{name}": r".*",
+    "{expression}": r".*",
+}
 PLAIN = {"`string`": str, "string": str, "`boolean`": bool, "boolean": bool}
 
 

@@ -31,7 +31,12 @@ def answers(program, folder, rule):
     """What curl says to each user, and its status."""
     file = pathlib.Path(folder, "rule")
     file.write_text(rule)
-    ran = subprocess.run(["unshare", "-n", "sh", "-c", SCRIPT, "sh", str(file), program, f"{folder}/port.db"], stdout=subprocess.PIPE, stderr=subprocess.PIPE, timeout=4 * SECONDS)
+    ran = subprocess.run(
+        ["unshare", "-n", "sh", "-c", SCRIPT, "sh", str(file), program, f"{folder}/port.db"],
+        stdout=subprocess.PIPE,
+        stderr=subprocess.PIPE,
+        timeout=4 * SECONDS,
+    )
     if ran.returncode:
         raise Unserved(f"the status is {ran.returncode}, with {ran.stderr.decode(errors='replace')[-300:]!r}")
     return ran.stdout.decode().splitlines()
@@ -45,4 +50,6 @@ def checks(program, folder):
     found = answers(program, folder, "")
     yield "any user without a rule", None if found == [f"{served} {it} 0" for it in USERS] else str(found)
     found = answers(program, folder, rule[1])
-    yield "nginx's user and root with it", None if found == [f"{served} root 0", f"{served} www-data 0", " nobody 7"] else str(found)
+    yield "nginx's user and root with it", (
+        None if found == [f"{served} root 0", f"{served} www-data 0", " nobody 7"] else str(found)
+    )

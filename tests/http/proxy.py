@@ -48,7 +48,12 @@ class Client:
     def ask(self, line):
         """The reply to a script's line, as a script's line."""
         method, path, *body = line.split(b" ", 2)
-        self.connection.request(method.decode(), path.decode(), body[0] if body else None, self.headers | {"Cookie": "c" * 3000, "User-Agent": "Mozilla/5.0"})
+        self.connection.request(
+            method.decode(),
+            path.decode(),
+            body[0] if body else None,
+            self.headers | {"Cookie": "c" * 3000, "User-Agent": "Mozilla/5.0"},
+        )
         reply = self.connection.getresponse()
         return b"%d " % reply.status + reply.read()
 
@@ -77,8 +82,22 @@ def replaced(text, *pairs):
 def write_users(folder):
     """A certificate that signs itself, and for each tenant its file of users, each user's password
     being the user's name."""
-    run("openssl", "req", "-x509", *KEY, "-days", "1", "-subj", "/CN=localhost", "-addext", "subjectAltName=DNS:localhost",
-        "-keyout", f"{folder}/key.pem", "-out", f"{folder}/certificate.pem")
+    run(
+        "openssl",
+        "req",
+        "-x509",
+        *KEY,
+        "-days",
+        "1",
+        "-subj",
+        "/CN=localhost",
+        "-addext",
+        "subjectAltName=DNS:localhost",
+        "-keyout",
+        f"{folder}/key.pem",
+        "-out",
+        f"{folder}/certificate.pem",
+    )
     for user, tenants in USERS.items():
         line = b"%s:%s" % (user.encode(), run("openssl", "passwd", "-apr1", user))
         for it in tenants:
@@ -88,13 +107,21 @@ def write_users(folder):
 def write_configuration(folder, port, servers, more):
     """examples/nginx.conf with the test's ports, its files in place of those below /etc/nginx and
     of the page, and more that is replaced."""
+
     def lines(ports):
         return "".join(f"    server 127.0.0.1:{it} max_fails=0;\n" for it in ports)
 
     files = (("/etc/nginx/crushcalc/" + it, f"{folder}/{it}") for it in ("certificate.pem", "key.pem", "$owner.users"))
     shutil.copytree(TOP / "web", folder / "web", dirs_exist_ok=True)
     page = ("/usr/local/share/crushcalc/web/", f"{folder}/web/")
-    text = replaced((TOP / "examples" / "nginx.conf").read_text(), (lines((8081, 8082)), lines(servers)), ("listen 443 ssl;", f"listen 127.0.0.1:{port} ssl;"), page, *files, *more)
+    text = replaced(
+        (TOP / "examples" / "nginx.conf").read_text(),
+        (lines((8081, 8082)), lines(servers)),
+        ("listen 443 ssl;", f"listen 127.0.0.1:{port} ssl;"),
+        page,
+        *files,
+        *more,
+    )
     (folder / "crushcalc.conf").write_text(text)
     (folder / "main.conf").write_text(MAIN.format(folder=folder))
 

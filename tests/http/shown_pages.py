@@ -12,10 +12,19 @@ from expected import TOP
 from server.served import SECONDS, free_port
 
 PAGE, README, PORT, ROOT = "docs/SERVING.md", "README.md", "8080", "    # "
-PLACES = ("/etc/nginx/crushcalc", "/etc/nginx/conf.d", "/etc/systemd/system", "/usr/local/bin", "/usr/local/share/crushcalc/web")
+PLACES = (
+    "/etc/nginx/crushcalc",
+    "/etc/nginx/conf.d",
+    "/etc/systemd/system",
+    "/usr/local/bin",
+    "/usr/local/share/crushcalc/web",
+)
 INSTALLED = (
-    *(f"/etc/nginx/crushcalc/{it}" for it in ("key.pem", "certificate.pem", "shop.users")), "/etc/nginx/conf.d/crushcalc.conf", "/etc/systemd/system/crushcalc@.service",
-    "/usr/local/bin/crushcalc", "/usr/local/share/crushcalc/web/index.html",
+    *(f"/etc/nginx/crushcalc/{it}" for it in ("key.pem", "certificate.pem", "shop.users")),
+    "/etc/nginx/conf.d/crushcalc.conf",
+    "/etc/systemd/system/crushcalc@.service",
+    "/usr/local/bin/crushcalc",
+    "/usr/local/share/crushcalc/web/index.html",
 )
 
 
@@ -23,7 +32,15 @@ def said_by(command, wanted, folder, environment=None):
     """What a command prints once its shell has ended, and what it leaves running, if that is a
     server, says that it listens."""
     with open(folder / "said", "w+b") as said:
-        ran = subprocess.run(["sh", "-c", command], cwd=folder, env=environment, stdin=subprocess.DEVNULL, stdout=said, stderr=subprocess.STDOUT, timeout=SECONDS)
+        ran = subprocess.run(
+            ["sh", "-c", command],
+            cwd=folder,
+            env=environment,
+            stdin=subprocess.DEVNULL,
+            stdout=said,
+            stderr=subprocess.STDOUT,
+            timeout=SECONDS,
+        )
         end = time.monotonic() + SECONDS
         while "serve" in command and (folder / "said").read_bytes() != wanted and time.monotonic() < end:
             time.sleep(0.05)

@@ -24,7 +24,9 @@ def checks(program, folder):
     text = (TOP / "examples" / "crushcalc.service").read_text()
     unit.write_text(text.replace("/usr/local/bin/crushcalc", program))
     status, said = analyze("verify", str(unit))
-    yield "the unit's words", None if (status, said.strip(), text.count("/usr/local/bin/crushcalc")) == (0, "", 1) else said
+    yield "the unit's words", (
+        None if (status, said.strip(), text.count("/usr/local/bin/crushcalc")) == (0, "", 1) else said
+    )
     status, said = analyze("security", "--offline=true", str(unit))
     found = SCORE.search(said)
     yield "the unit's rights", None if found and float(found[1]) <= EXPOSURE else said[-300:]

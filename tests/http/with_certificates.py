@@ -25,8 +25,11 @@ def by_certificates(folder):
     """What is replaced in the example."""
     asked = f"ssl_client_certificate {folder}/users.pem;\n    ssl_verify_client optional;"
     return (
-        ("server {\n    listen", shown() + "server {\n    listen"), ("    auth_basic crushcalc;\n", ""), (f"auth_basic_user_file {folder}/$owner.users;", asked),
-        ("        if ($foreign) {", "        if ($stranger) { return 403; }\n        if ($foreign) {"), ("limit_conn_zone $remote_user", "limit_conn_zone $ssl_client_s_dn"),
+        ("server {\n    listen", shown() + "server {\n    listen"),
+        ("    auth_basic crushcalc;\n", ""),
+        (f"auth_basic_user_file {folder}/$owner.users;", asked),
+        ("        if ($foreign) {", "        if ($stranger) { return 403; }\n        if ($foreign) {"),
+        ("limit_conn_zone $remote_user", "limit_conn_zone $ssl_client_s_dn"),
     )
 
 
@@ -34,11 +37,41 @@ def signed(folder, authority, user):
     """The file of a user's certificate and key, signed by an authority, which is made at first."""
     at = f"{folder}/{authority}"
     if not pathlib.Path(f"{at}.pem").exists():
-        run("openssl", "req", "-x509", *KEY, "-days", "1", "-subj", f"/CN={authority}", "-keyout", f"{at}.key", "-out", f"{at}.pem")
+        run(
+            "openssl",
+            "req",
+            "-x509",
+            *KEY,
+            "-days",
+            "1",
+            "-subj",
+            f"/CN={authority}",
+            "-keyout",
+            f"{at}.key",
+            "-out",
+            f"{at}.pem",
+        )
     file = f"{folder}/{authority}-{user}"
     run("openssl", "req", *KEY, "-subj", f"/CN={user}", "-keyout", f"{file}.key", "-out", f"{file}.csr")
-    run("openssl", "x509", "-req", "-in", f"{file}.csr", "-CA", f"{at}.pem", "-CAkey", f"{at}.key", "-CAcreateserial", "-days", "1", "-out", f"{file}.crt")
-    pathlib.Path(f"{file}.pem").write_bytes(pathlib.Path(f"{file}.crt").read_bytes() + pathlib.Path(f"{file}.key").read_bytes())
+    run(
+        "openssl",
+        "x509",
+        "-req",
+        "-in",
+        f"{file}.csr",
+        "-CA",
+        f"{at}.pem",
+        "-CAkey",
+        f"{at}.key",
+        "-CAcreateserial",
+        "-days",
+        "1",
+        "-out",
+        f"{file}.crt",
+    )
+    pathlib.Path(f"{file}.pem").write_bytes(
+        pathlib.Path(f"{file}.crt").read_bytes() + pathlib.Path(f"{file}.key").read_bytes()
+    )
     return f"{file}.pem"
 
 
@@ -46,7 +79,14 @@ def who_reaches(port, folder):
     """anna reaches her tenant alone; nobody does without a certificate, or with one that another
     authority signed."""
     anna, other = signed(folder, "users", "anna"), signed(folder, "others", "anna")
-    asked = ((anna, b"/t/shop", NO_TENANT), (anna, b"/t/lab", b"403 "), (anna, b"/t/", b"403 "), (None, b"/t/shop", b"403 "), (other, b"/t/shop", b"400 "), (None, b"/page/", b"200 "))
+    asked = (
+        (anna, b"/t/shop", NO_TENANT),
+        (anna, b"/t/lab", b"403 "),
+        (anna, b"/t/", b"403 "),
+        (None, b"/t/shop", b"403 "),
+        (other, b"/t/shop", b"400 "),
+        (None, b"/page/", b"200 "),
+    )
     for certificate, path, wanted in asked:
         found = Client(port, folder, None, certificate=certificate).ask(b"GET " + path)
         if not found.startswith(wanted):
@@ -86,4 +126,7 @@ def checks(program, top):
         (folder / "nginx.pid").unlink(missing_ok=True)
         with nginx(folder, [server.port]) as port:
             known = time_of_requests(port, folder, user="anna")
-    print(f"nginx takes {known * 10 / REQUESTS:.2f} ms of a processor for a request with a password, and {certified * 10 / REQUESTS:.2f} ms with a certificate")
+    print(
+        f"nginx takes {known * 10 / REQUESTS:.2f} ms of a processor for a request with a password, and"
+        f" {certified * 10 / REQUESTS:.2f} ms with a certificate"
+    )

@@ -17,7 +17,12 @@ STATUS = "\n%{http_code} %{num_connects}\n"
 def curl(*words):
     """What curl writes: of each URL the status and body as a script's line, and how many
     connections were made for it."""
-    ran = subprocess.run(["curl", "-sS", "--max-time", "20", "-w", STATUS, *words], stdout=subprocess.PIPE, stderr=subprocess.PIPE, timeout=60)
+    ran = subprocess.run(
+        ["curl", "-sS", "--max-time", "20", "-w", STATUS, *words],
+        stdout=subprocess.PIPE,
+        stderr=subprocess.PIPE,
+        timeout=60,
+    )
     if ran.returncode:
         raise OSError(f"curl {words[:6]} ends with status {ran.returncode}: {ran.stderr.decode(errors='replace')}")
     lines = ran.stdout.split(b"\n")
@@ -42,7 +47,9 @@ def one_connection(server, folder, pairs):
     """Several URLs in one call: a connection, kept for all."""
     urls = [f"http://127.0.0.1:{server.port}{line.split()[1].decode()}" for line, _ in pairs]
     found = curl(*urls)
-    return unlike(pairs, [it for it, _ in found]) or (None if [it for _, it in found] == [1] + [0] * (len(urls) - 1) else f"connections {[it for _, it in found]}")
+    return unlike(pairs, [it for it, _ in found]) or (
+        None if [it for _, it in found] == [1] + [0] * (len(urls) - 1) else f"connections {[it for _, it in found]}"
+    )
 
 
 def expect(server, folder):
@@ -79,8 +86,16 @@ def chunks(server, folder):
 
 def head_only(server, folder):
     """HEAD isn't a method of any path; its reply has a body, and curl leaves that unread."""
-    ran = subprocess.run(["curl", "-sSI", "--max-time", "20", f"http://127.0.0.1:{server.port}/t/a"], stdout=subprocess.PIPE, stderr=subprocess.PIPE)
-    return None if ran.stdout.startswith(b"HTTP/1.1 405 Method Not Allowed\r\n") and ran.returncode == 0 else f"status {ran.returncode}, {ran.stdout!r}, {ran.stderr!r}"
+    ran = subprocess.run(
+        ["curl", "-sSI", "--max-time", "20", f"http://127.0.0.1:{server.port}/t/a"],
+        stdout=subprocess.PIPE,
+        stderr=subprocess.PIPE,
+    )
+    return (
+        None
+        if ran.stdout.startswith(b"HTTP/1.1 405 Method Not Allowed\r\n") and ran.returncode == 0
+        else f"status {ran.returncode}, {ran.stdout!r}, {ran.stderr!r}"
+    )
 
 
 def checks(program, folder):
@@ -89,9 +104,15 @@ def checks(program, folder):
     with Server(program, pathlib.Path(folder, "curl.db")) as server:
         yield "each route", each_route(server, folder, pairs)
         yield "each route by HTTP/1.0", each_route(server, folder, pairs, "--http1.0")
-        yield "each route with Expect: and an offer of HTTP/2", each_route(server, folder, pairs, "-H", "Expect:", "--http2", "--compressed", "-A", "Mozilla/5.0")
+        yield "each route with Expect: and an offer of HTTP/2", each_route(
+            server, folder, pairs, "-H", "Expect:", "--http2", "--compressed", "-A", "Mozilla/5.0"
+        )
         asked(server, [b"PUT /t/a"])
-        some = [(b"GET /t/a", there(b"a")), (b"GET /t/b", b'404 {"error":"no_tenant"}'), (b"GET /x", b'404 {"error":"no_path"}')] * 5
+        some = [
+            (b"GET /t/a", there(b"a")),
+            (b"GET /t/b", b'404 {"error":"no_tenant"}'),
+            (b"GET /x", b'404 {"error":"no_path"}'),
+        ] * 5
         yield "several URLs over one connection", one_connection(server, folder, some)
         yield "Expect", expect(server, folder)
         yield "a body over the limit", too_long(server, folder)

@@ -16,12 +16,31 @@ from server.served import Server, asked
 USERS, CONNECTIONS, SECONDS = 32, 2, 5
 # a user, a password where it isn't the user's, a path, and the status of the reply
 ASKED = (
-    (None, None, "/t/shop", 401), ("anna", "wrong", "/t/shop", 401), ("ben", "anna", "/t/shop", 401), ("ben", None, "/t/shop", 401),
-    ("ben", None, "/t/lab", 404), ("anna", None, "/t/shop", 404), ("ben", None, "/t/nobody", 403), ("ben", None, "/", 403), ("ben", None, "/t/", 403),
-    ("ben", None, "/t/lab/../shop", 404), ("ben", None, "/t/lab/%2e%2e/shop", 404), ("ben", None, "/t/lab%2f..%2fshop", 403), ("ben", None, "/t/lab?/../shop", 403),
-    (None, None, "/page/", 200), (None, None, "/page/page.js", 200), (None, None, "/page/../t/shop", 401), ("anna", None, "/t/shop.copy-0123456789ab", 404),
-    ("ben", None, "/t/shop.copy-0123456789ab", 401), ("anna", None, "/t/shop.copy-0123456789abc", 403), ("anna", None, "/t/lab.copy-0123456789ab", 401),
-    ("ben", None, "/t/../t/shop", 403), ("ben", None, "/t/../shop", 403), ("ben", None, "/t/../shop.users", 403), ("ben", None, "//t/shop", 403), ("ben", None, "/t/%73hop", 403),
+    (None, None, "/t/shop", 401),
+    ("anna", "wrong", "/t/shop", 401),
+    ("ben", "anna", "/t/shop", 401),
+    ("ben", None, "/t/shop", 401),
+    ("ben", None, "/t/lab", 404),
+    ("anna", None, "/t/shop", 404),
+    ("ben", None, "/t/nobody", 403),
+    ("ben", None, "/", 403),
+    ("ben", None, "/t/", 403),
+    ("ben", None, "/t/lab/../shop", 404),
+    ("ben", None, "/t/lab/%2e%2e/shop", 404),
+    ("ben", None, "/t/lab%2f..%2fshop", 403),
+    ("ben", None, "/t/lab?/../shop", 403),
+    (None, None, "/page/", 200),
+    (None, None, "/page/page.js", 200),
+    (None, None, "/page/../t/shop", 401),
+    ("anna", None, "/t/shop.copy-0123456789ab", 404),
+    ("ben", None, "/t/shop.copy-0123456789ab", 401),
+    ("anna", None, "/t/shop.copy-0123456789abc", 403),
+    ("anna", None, "/t/lab.copy-0123456789ab", 401),
+    ("ben", None, "/t/../t/shop", 403),
+    ("ben", None, "/t/../shop", 403),
+    ("ben", None, "/t/../shop.users", 403),
+    ("ben", None, "//t/shop", 403),
+    ("ben", None, "/t/%73hop", 403),
 )
 
 
@@ -54,14 +73,23 @@ def other_sites(port, folder):
 
 def clients_at_once(port, folder):
     """Each of 64 clients makes a tenant and imports a map into it; then each asks for another's."""
+
     def own(place):
         client = Client(port, folder, f"u{place}")
-        return [client.ask(it.replace(b"/t/a", b"/t/t%d" % place)) for it in (b"PUT /t/a", messages.import_of(maps.tiny(place)), b"GET /t/a", messages.test_of(x=place))]
+        return [
+            client.ask(it.replace(b"/t/a", b"/t/t%d" % place))
+            for it in (b"PUT /t/a", messages.import_of(maps.tiny(place)), b"GET /t/a", messages.test_of(x=place))
+        ]
 
     with concurrent.futures.ThreadPoolExecutor(TENANTS) as pool:
         found = list(pool.map(own, range(TENANTS)))
     for place, it in enumerate(found):
-        want = [made(b"t%d" % place), messages.imported(1, 1), messages.summary(1, 1, tenant="t%d" % place), messages.tested([place], [place])]
+        want = [
+            made(b"t%d" % place),
+            messages.imported(1, 1),
+            messages.summary(1, 1, tenant="t%d" % place),
+            messages.tested([place], [place]),
+        ]
         if it != want:
             return f"client {place + 1}: {it}"
     return None
@@ -77,8 +105,19 @@ def one_process_each(servers, folder):
 def load(port, folder):
     """ab for some seconds, for each of 32 users with two connections that are kept open; it looks
     at the length and status of each reply."""
+
     def own(place):
-        words = ("-q", "-k", "-c", str(CONNECTIONS), "-t", str(SECONDS), "-A", f"u{place}:u{place}", f"https://localhost:{port}/t/t{place}")
+        words = (
+            "-q",
+            "-k",
+            "-c",
+            str(CONNECTIONS),
+            "-t",
+            str(SECONDS),
+            "-A",
+            f"u{place}:u{place}",
+            f"https://localhost:{port}/t/t{place}",
+        )
         ran = run("ab", *words).decode()
         said = dict(re.findall(r"^([\w -]+): +(\S+)", ran, re.M))
         sound = said["Failed requests"] == "0" and "Non-2xx responses" not in said
@@ -86,7 +125,10 @@ def load(port, folder):
 
     with concurrent.futures.ThreadPoolExecutor(USERS) as pool:
         found = list(pool.map(own, range(USERS)))
-    print(f"nginx with TLS, passwords, and {USERS * CONNECTIONS} connections of {USERS} users: {sum(rate for _, _, rate in found):,.0f} requests a second")
+    print(
+        f"nginx with TLS, passwords, and {USERS * CONNECTIONS} connections of {USERS} users:"
+        f" {sum(rate for _, _, rate in found):,.0f} requests a second"
+    )
     done = sum(count for _, count, _ in found)
     return next((why for why, _, _ in found if why), None if done >= USERS else f"only {done} requests were answered")
 
@@ -124,7 +166,11 @@ def twice_as_many(program, folder):
                 shutil.copyfile(f"{folder}/{it}.db{end}", f"{folder}/{it + 2}.db{end}")
     with processes(program, folder, 4) as servers, nginx(folder, [it.port for it in servers]) as port:
         found = [Client(port, folder, f"u{it}").ask(b"GET /t/t%d" % it) for it in range(TENANTS)]
-        return None if found == [messages.summary(1, 1, tenant="t%d" % it) for it in range(TENANTS)] else f"the replies are {found[:4]} .."
+        return (
+            None
+            if found == [messages.summary(1, 1, tenant="t%d" % it) for it in range(TENANTS)]
+            else f"the replies are {found[:4]} .."
+        )
 
 
 def importers(program, folder):
@@ -134,9 +180,15 @@ def importers(program, folder):
     used = re.sub(r"^    #", "    ", block, flags=re.M).replace("/etc/nginx/crushcalc", str(folder))
     with processes(program, folder, 1) as servers, nginx(folder, [it.port for it in servers], (block, used)) as port:
         for user, tenant in (("ben", "shop"), ("anna", "depot")):
-            (folder / f"{tenant}.importers").write_bytes(b"%s:%s" % (user.encode(), run("openssl", "passwd", "-apr1", user)))
+            (folder / f"{tenant}.importers").write_bytes(
+                b"%s:%s" % (user.encode(), run("openssl", "passwd", "-apr1", user))
+            )
         client = Client(port, folder, "anna")
-        found = [client.ask(it.replace(b"/t/a", b"/t/" + tenant)) for tenant in (b"shop", b"depot") for it in (b"PUT /t/a", messages.import_of(maps.tiny(0)), b"GET /t/a")]
+        found = [
+            client.ask(it.replace(b"/t/a", b"/t/" + tenant))
+            for tenant in (b"shop", b"depot")
+            for it in (b"PUT /t/a", messages.import_of(maps.tiny(0)), b"GET /t/a")
+        ]
     for place, status in enumerate((201, 401, 200, 201, 201, 200)):
         if not found[place].startswith(b"%d " % status):
             return f"request {place + 1}: {found[place][:100]!r}, not {status}"

@@ -9,8 +9,15 @@ from expected import expected, unlike
 from server.served import Server, asked, message, read_reply, script_replies
 
 BROWSER = (
-    b"User-Agent: Mozilla/5.0 (X11; Linux x86_64; rv:128.0) Gecko/20100101 Firefox/128.0", b"Accept: text/html,application/xhtml+xml,application/xml;q=0.9,*/*;q=0.8",
-    b"Accept-Language: en-GB,en;q=0.5", b"Accept-Encoding: gzip, deflate", b"DNT: 1", b"Connection: keep-alive", b"Upgrade-Insecure-Requests: 1", b"Cookie: a=b; c=d", b"Priority: u=0, i",
+    b"User-Agent: Mozilla/5.0 (X11; Linux x86_64; rv:128.0) Gecko/20100101 Firefox/128.0",
+    b"Accept: text/html,application/xhtml+xml,application/xml;q=0.9,*/*;q=0.8",
+    b"Accept-Language: en-GB,en;q=0.5",
+    b"Accept-Encoding: gzip, deflate",
+    b"DNT: 1",
+    b"Connection: keep-alive",
+    b"Upgrade-Insecure-Requests: 1",
+    b"Cookie: a=b; c=d",
+    b"Priority: u=0, i",
 )
 
 
@@ -19,7 +26,9 @@ def by_http_client(server, pairs):
     connection, found = http.client.HTTPConnection("127.0.0.1", server.port, timeout=20), []
     for line, _ in pairs:
         method, path, *body = line.decode().split(" ", 2)
-        connection.request(method, path, body[0].encode() if body else None, {"Content-Type": "application/json"} if body else {})
+        connection.request(
+            method, path, body[0].encode() if body else None, {"Content-Type": "application/json"} if body else {}
+        )
         reply = connection.getresponse()
         found.append(b"%d " % reply.status + reply.read())
         if reply.will_close:
@@ -52,7 +61,9 @@ def six_connections(server, pairs):
         it.join(60)
     ends.set()
     why = next((why for it in range(6) if (why := unlike(pairs, found[it]))), None)
-    return why or (None if max(spent.values()) < 35 else f"the last connection was served after {max(spent.values()):.1f} seconds")
+    return why or (
+        None if max(spent.values()) < 35 else f"the last connection was served after {max(spent.values()):.1f} seconds"
+    )
 
 
 def checks(program, folder):

@@ -54,7 +54,12 @@ class Run:
                     continue
                 if leaves is not None and item < 0:
                     below = r >> (self.vary_r - 1) if self.vary_r else 0
-                    if self.firstn(item, 1 if self.stable else place + 1, 0, leaves, place, room, leaf_tries, 0, None, below) <= place:
+                    if (
+                        self.firstn(
+                            item, 1 if self.stable else place + 1, 0, leaves, place, room, leaf_tries, 0, None, below
+                        )
+                        <= place
+                    ):
                         continue
                 elif leaves is not None:
                     leaves[place:] = [item]
@@ -72,6 +77,7 @@ class Run:
             out[place] = UNDECIDED
         for failed in range(tries):
             for place in (it for it in places if out[it] == UNDECIDED):
+
                 def attempt(at):
                     _, kind, items = self.buckets[at]
                     return place + parent + failed * (numrep + (kind == "uniform" and len(items) % numrep == 0))
@@ -83,7 +89,17 @@ class Run:
                 if item is None or item in [out[it] for it in places]:
                     continue
                 if leaves is not None and item < 0:
-                    self.indep(item, numrep, 0, leaves, [place], leaf_tries, 0, None, attempt(self.parent_of(bucket, wanted, attempt)))
+                    self.indep(
+                        item,
+                        numrep,
+                        0,
+                        leaves,
+                        [place],
+                        leaf_tries,
+                        0,
+                        None,
+                        attempt(self.parent_of(bucket, wanted, attempt)),
+                    )
                     if leaves[place] is None:
                         continue
                 elif leaves is not None:
@@ -164,13 +180,35 @@ def check():
     and devices that only the trace has."""
     one, legacy, jewel = 65536, (19, 0, 0, 0), (50, 1, 1, 1)
     host = Picks([(-1, 1, "uniform", ((0, one), (1, one))), (-2, 10, "list", ((-1, one),))])
-    single = Picks([(-1, 1, "uniform", ((0, one),)), (-2, 1, "list", ((1, one),)), (-3, 1, "list", ((2, one),)), (-4, 10, "list", ((-2, one), (-3, 0)))])
+    single = Picks(
+        [
+            (-1, 1, "uniform", ((0, one),)),
+            (-2, 1, "list", ((1, one),)),
+            (-3, 1, "list", ((2, one),)),
+            (-4, 10, "list", ((-2, one), (-3, 0))),
+        ]
+    )
     leaf = ("take -2", "chooseleaf firstn 1 1", "emit")
     return (
         run_rule(host, legacy, ("set_choose_tries 1", *leaf), [(1, 0)], 0, 1) == ([], [])
         and run_rule(host, legacy, ("set_choose_tries 2", *leaf), [(1, 0)], 0, 1) == ([0], [0])
         and run_rule(host, jewel, ("take 0", "choose firstn 1 0", "emit"), [], 0, 1) == ([], [])
-        and run_rule(single, jewel, ("take -1", "choose firstn 1 0", "take -4", "choose firstn 2 1", "choose firstn 1 0", "emit"), [], 0, 2) == ([1], [0, 1])
-        and run_rule(single, jewel, ("take -1", "choose firstn 1 0", "emit", "take -4", "chooseleaf firstn 1 1", "choose firstn 1 0", "emit"), [], 0, 2)
+        and run_rule(
+            single,
+            jewel,
+            ("take -1", "choose firstn 1 0", "take -4", "choose firstn 2 1", "choose firstn 1 0", "emit"),
+            [],
+            0,
+            2,
+        )
+        == ([1], [0, 1])
+        and run_rule(
+            single,
+            jewel,
+            ("take -1", "choose firstn 1 0", "emit", "take -4", "chooseleaf firstn 1 1", "choose firstn 1 0", "emit"),
+            [],
+            0,
+            2,
+        )
         == ([0], [0, 1])
     )

@@ -94,6 +94,7 @@ def list_pick(bucket, entries, x, r):
 def tree_pick(bucket, entries, x, r):
     """Down from the root: item i is the node 2i+1, and a node's height is the number of its
     trailing zero bits."""
+
     def weight(node):
         half = node & -node
         first, past = (node - half + 1) // 2, (node + half) // 2
@@ -166,7 +167,8 @@ def check():
         and tree_pick(-1, [(10, 0), (11, 65536), (12, 0)], 0, 0) == 11
         and (len(RECIPROCALS), len(LOGS), len(REST_LOGS)) == (129, 129, 256)
         and [log(it) for it in (0, 32767, 65534, 65535)] == [0, 15 * 2**44, 281474932780304, 2**48 - 2**28]
-        and [straw2_pick(-1, even(0, 1, 2), x, 0) for x in range(16)] == [0, 0, 1, 0, 1, 0, 2, 1, 2, 2, 0, 0, 0, 0, 1, 1]
+        and [straw2_pick(-1, even(0, 1, 2), x, 0) for x in range(16)]
+        == [0, 0, 1, 0, 1, 0, 2, 1, 2, 2, 0, 0, 0, 0, 1, 1]
         and straw2_pick(-1, even(55160, 64590), 1, 0) == 64590
         and straw2_pick(-1, [(7, 0), (6, 0)], 0, 0) == 7
     )

@@ -37,9 +37,19 @@ def declaring(device, rule=0):
 
 
 # the texts that are imported, each with its map
-TEXTS = {maps.with_rule(rule, maps.tiny(device)): Map(device, rule, canonical_of(device, rule), (device,)) for device in range(300) for rule in range(2)}
-TEXTS |= {declaring(device, rule): Map(device, rule, canonical(declaring(device, rule)), tuple(range(DECLARED))) for device in range(DECLARED) for rule in range(2)}
-TEXTS |= {maps.straw2_tiny(device): Map(device, 0, canonical(maps.straw2_tiny(device)), (device,)) for device in range(10)}
+TEXTS = {
+    maps.with_rule(rule, maps.tiny(device)): Map(device, rule, canonical_of(device, rule), (device,))
+    for device in range(300)
+    for rule in range(2)
+}
+TEXTS |= {
+    declaring(device, rule): Map(device, rule, canonical(declaring(device, rule)), tuple(range(DECLARED)))
+    for device in range(DECLARED)
+    for rule in range(2)
+}
+TEXTS |= {
+    maps.straw2_tiny(device): Map(device, 0, canonical(maps.straw2_tiny(device)), (device,)) for device in range(10)
+}
 TEXTS[JEWEL] = Map(0, 0, canonical(JEWEL), (0,))
 
 
@@ -92,7 +102,9 @@ def create_pool(tenant, asked, epoch):
 def remove_pool(tenant, asked, epoch):
     if asked["id"] not in tenant.pools:
         return messages.NO_POOL, None
-    return messages.removed(epoch, asked["id"]), tenant._replace(pools={it: pool for it, pool in tenant.pools.items() if it != asked["id"]})
+    return messages.removed(epoch, asked["id"]), tenant._replace(
+        pools={it: pool for it, pool in tenant.pools.items() if it != asked["id"]}
+    )
 
 
 def except_groups(tenant, asked, epoch):
@@ -108,7 +120,11 @@ def except_groups(tenant, asked, epoch):
 
 
 CHANGES = {
-    ("maps",): import_into, ("devices",): change_devices, ("devices", "csv"): change_by_csv, ("pools",): create_pool, ("pools", "remove"): remove_pool,
+    ("maps",): import_into,
+    ("devices",): change_devices,
+    ("devices", "csv"): change_by_csv,
+    ("pools",): create_pool,
+    ("pools", "remove"): remove_pool,
     ("pools", "exceptions"): except_groups,
 }
 
@@ -142,7 +158,9 @@ def up_of(tenant, map, pool, group):
     """The list that the pool's pairs make of that answer, without the devices that aren't up."""
     _, is_erasure, pairs = tenant.pools[pool]
     own = [(old, new) for of, old, new in pairs if of == group]
-    items = placed.excepted(raw_of(tenant, map, pool, group), own, lambda it: it in map.devices and state_of(tenant, it)[0] > 0)
+    items = placed.excepted(
+        raw_of(tenant, map, pool, group), own, lambda it: it in map.devices and state_of(tenant, it)[0] > 0
+    )
     slots = [it if state_of(tenant, it)[1] else None for it in items]
     return slots if is_erasure else [it for it in slots if it is not None]
 
@@ -170,7 +188,15 @@ def group_in(tenant, pool, group, **more):
     if group >= GROUPS:
         return messages.NO_GROUP
     map = tenant.versions[-1]
-    return messages.lies(len(tenant.receipts), group, seed_of(pool, group), up_of(tenant, map, pool, group), raw_of(tenant, map, pool, group), len(tenant.versions), **more)
+    return messages.lies(
+        len(tenant.receipts),
+        group,
+        seed_of(pool, group),
+        up_of(tenant, map, pool, group),
+        raw_of(tenant, map, pool, group),
+        len(tenant.versions),
+        **more,
+    )
 
 
 def usage_in(tenant, pool):
@@ -180,7 +206,10 @@ def usage_in(tenant, pool):
     map = tenant.versions[-1]
     entries = [it for group in range(GROUPS) for it in up_of(tenant, map, pool, group) if it is not None]
     counts = {device: entries.count(device) for device in sorted(map.devices)}
-    rows = [(device, count, count, count, 1000 * count // len(entries) if entries else 0) for device, count in counts.items()]
+    rows = [
+        (device, count, count, count, 1000 * count // len(entries) if entries else 0)
+        for device, count in counts.items()
+    ]
     return messages.used(len(tenant.receipts), *rows, version=len(tenant.versions), pool=pool)
 
 
@@ -194,7 +223,9 @@ def moves_in(tenant, pool, first, second):
     if not old.rule == new.rule == tenant.pools[pool].rule:
         return messages.NO_RULE
     lists = [(group, *(up_of(tenant, it, pool, group) for it in (old, new))) for group in range(GROUPS)]
-    rows = [(group, len(set(after) - {*before, None}), before, after) for group, before, after in lists if before != after]
+    rows = [
+        (group, len(set(after) - {*before, None}), before, after) for group, before, after in lists if before != after
+    ]
     return messages.moved(len(tenant.receipts), first, second, *rows, pool=pool)
 
 
@@ -213,12 +244,20 @@ def impact_in(tenant, pool, device):
 
 def exceptions_in(tenant, pool):
     """The definition's reply with the exceptions of a pool."""
-    return messages.shown(len(tenant.receipts), *tenant.pools[pool].pairs, pool=pool) if pool in tenant.pools else messages.NO_POOL
+    return (
+        messages.shown(len(tenant.receipts), *tenant.pools[pool].pairs, pool=pool)
+        if pool in tenant.pools
+        else messages.NO_POOL
+    )
 
 
 def version_of(tenant, number):
     """The definition's reply with the text of a version."""
-    return messages.version_of(tenant.versions[number - 1].text, number) if 1 <= number <= len(tenant.versions) else messages.NO_VERSION
+    return (
+        messages.version_of(tenant.versions[number - 1].text, number)
+        if 1 <= number <= len(tenant.versions)
+        else messages.NO_VERSION
+    )
 
 
 REPORTS = {"groups": group_in, "usage": usage_in, "moves": moves_in, "impact": impact_in, "exceptions": exceptions_in}
@@ -230,7 +269,11 @@ def ask(tenant, rest, asked):
         return test_on(tenant, asked)
     if rest == ("pick",):
         bucket = asked["bucket"]
-        return item(crush.PICKS[bucket["kind"]](bucket["id"], [(it["item"], it["weight"]) for it in bucket["items"]], asked["x"], asked["r"]))
+        return item(
+            crush.PICKS[bucket["kind"]](
+                bucket["id"], [(it["item"], it["weight"]) for it in bucket["items"]], asked["x"], asked["r"]
+            )
+        )
     hash = crush.name_hash(asked["name"].encode())
     return group_in(tenant, int(rest[1]), crush.stable_mod(hash, GROUPS), hash=hash)
 
@@ -261,7 +304,10 @@ def step(tenant, line):
     if method == b"GET" and rest:
         return REPORTS[rest[2]](tenant, int(rest[1]), *map(int, rest[3:])), tenant
     if method == b"GET":
-        return messages.summary(len(tenant.receipts), len(tenant.versions), len(tenant.states), len(tenant.pools), name), tenant
+        return (
+            messages.summary(len(tenant.receipts), len(tenant.versions), len(tenant.states), len(tenant.pools), name),
+            tenant,
+        )
     asked = json.loads(sent)
     return change(tenant, line, asked, CHANGES[rest]) if rest in CHANGES else (ask(tenant, rest, asked), tenant)
 
@@ -293,9 +339,11 @@ def rows_of(tenant):
         "epoch": len(tenant.receipts),
         "maps": [(place, it.text) for place, it in enumerate(tenant.versions, 1)],
         "devices": sorted((device, reweight, int(up)) for device, (reweight, up) in tenant.states.items()),
-        "pools_2": [(it["id"], it["name"], int(it["kind"] == "erasure"), it["size"], it["rule"], it["pg_num"], it["pgp_num"], int(it["hashpspool"]), len(pairs[it["id"]])) for it in pools],
+        "pools_2": [messages.pool_row(it, pairs[it["id"]]) for it in pools],
         "exceptions": [(pool, place, *pair) for pool, list in pairs.items() for place, pair in enumerate(list)],
-        "receipts": sorted((receipt_of(request, *it) for request, it in tenant.receipts.items()), key=lambda row: row[0].encode()),
+        "receipts": sorted(
+            (receipt_of(request, *it) for request, it in tenant.receipts.items()), key=lambda row: row[0].encode()
+        ),
     }
 
 

@@ -61,7 +61,9 @@ class History:
             for place, (line, reply) in enumerate(kept):
                 want, after = step(state, line)
                 if reply is not None and reply != want:
-                    raise Unexplained(f"kept call {place + 1} of tenant {name.decode()}: want {short(want)}, got {short(reply)}")
+                    raise Unexplained(
+                        f"kept call {place + 1} of tenant {name.decode()}: want {short(want)}, got {short(reply)}"
+                    )
                 accepted = acting(accepted, state, after)
                 state = after
             if state != live.get(name):
@@ -72,7 +74,7 @@ def acting(accepted, before, after):
     """The request numbers that have changed a tenant since it was made, after one more call."""
     if before is None or after is None or before == after:
         return accepted if after is not None else set()
-    number, = after.receipts.keys() - before.receipts.keys()
+    (number,) = after.receipts.keys() - before.receipts.keys()
     if number in accepted:
         raise Unexplained(f"the number {number} acts twice")
     return accepted | {number}
@@ -98,7 +100,9 @@ def changing(drawn, number):
     if kind == 2:
         return messages.import_of("", number)
     if kind < 5:
-        return messages.devices_of(number, messages.state(device, reweight=drawn.choice((0, 20000, 65536)), up=drawn.random() < 0.7))
+        return messages.devices_of(
+            number, messages.state(device, reweight=drawn.choice((0, 20000, 65536)), up=drawn.random() < 0.7)
+        )
     if kind == 5:
         return messages.csv_of(number, messages.lines_of(f"{device},{drawn.randrange(65537)},{drawn.randrange(2)}"))
     return messages.pool_of(number, id=pool, name=f"p{pool}") if kind < 8 else messages.removal_of(number, pool)
@@ -108,11 +112,21 @@ def asking(drawn):
     """A request of tenant a that changes nothing."""
     device, pool = drawn.randrange(DEVICES), 1 + drawn.randrange(POOLS)
     first, second = (1 + drawn.randrange(MAPS) for _ in range(2))
-    return drawn.choice((
-        b"GET /t/a", b"GET /t/a/maps/%d" % first, messages.group_of(drawn.randrange(9), pool), messages.object_of("cat.jpg", pool), messages.test_of(x=drawn.getrandbits(32)),
-        messages.test_of(x=1, version=first), messages.usage_of(pool), messages.moves_of(first, second, pool), messages.impact_of(device, pool), messages.shown_of(pool),
-        b"POST /t/a/pick " + body([(4, 65536), (9, drawn.getrandbits(16))], x=drawn.getrandbits(32)),
-    ))
+    return drawn.choice(
+        (
+            b"GET /t/a",
+            b"GET /t/a/maps/%d" % first,
+            messages.group_of(drawn.randrange(9), pool),
+            messages.object_of("cat.jpg", pool),
+            messages.test_of(x=drawn.getrandbits(32)),
+            messages.test_of(x=1, version=first),
+            messages.usage_of(pool),
+            messages.moves_of(first, second, pool),
+            messages.impact_of(device, pool),
+            messages.shown_of(pool),
+            b"POST /t/a/pick " + body([(4, 65536), (9, drawn.getrandbits(16))], x=drawn.getrandbits(32)),
+        )
+    )
 
 
 def again(drawn, live, tenant):

@@ -10,10 +10,23 @@ import re
 LENGTH = 4_194_304
 NAME = re.compile(rb"[A-Za-z0-9._-]+")
 MARK = b"# crushcalc: straw2"
-TUNABLES = {b"choose_local_tries": (2, 0, None), b"choose_local_fallback_tries": (5, 0, None), b"choose_total_tries": (19, 0, 999), b"chooseleaf_descend_once": (0, 0, 1),
-            b"chooseleaf_vary_r": (0, 0, 8), b"chooseleaf_stable": (0, 0, 1), b"straw_calc_version": (0, 0, None), b"allowed_bucket_algs": (0, 0, None)}
+TUNABLES = {
+    b"choose_local_tries": (2, 0, None),
+    b"choose_local_fallback_tries": (5, 0, None),
+    b"choose_total_tries": (19, 0, 999),
+    b"chooseleaf_descend_once": (0, 0, 1),
+    b"chooseleaf_vary_r": (0, 0, 8),
+    b"chooseleaf_stable": (0, 0, 1),
+    b"straw_calc_version": (0, 0, None),
+    b"allowed_bucket_algs": (0, 0, None),
+}
 LOCAL = (b"choose_local_tries", b"choose_local_fallback_tries")
-SET_STEPS = {b"set_choose_tries": 1000, b"set_chooseleaf_tries": 1000, b"set_chooseleaf_vary_r": 8, b"set_chooseleaf_stable": 1}
+SET_STEPS = {
+    b"set_choose_tries": 1000,
+    b"set_chooseleaf_tries": 1000,
+    b"set_chooseleaf_vary_r": 8,
+    b"set_chooseleaf_stable": 1,
+}
 LOCAL_STEPS = (b"set_choose_local_tries", b"set_choose_local_fallback_tries")
 NO_TYPES = (b"tunable", b"device", b"type", b"rule", b"choose_args", b"class")
 
@@ -135,20 +148,42 @@ def device(m, reader):
     number, name = reader.value(number_of), reader.name()
     if reader.has(b"class"):
         reader.name()
-    yield first(((len(m.devices) >= 10_000, "M1"), (number > 65535, "M12"), (number in m.devices, "M2"), (not is_good(name), "M15"), (name in m.ids, "M3")))
+    yield first(
+        (
+            (len(m.devices) >= 10_000, "M1"),
+            (number > 65535, "M12"),
+            (number in m.devices, "M2"),
+            (not is_good(name), "M15"),
+            (name in m.ids, "M3"),
+        )
+    )
     m.devices[number], m.ids[name], m.weights[name] = name, number, 65536
 
 
 def type_name(m, reader):
     number, name = reader.value(number_of), reader.name()
-    yield first(((len(m.types) >= 32, "M1"), (number > 65535, "M12"), (number in m.types, "M2"), (not is_good(name) or name in NO_TYPES, "M15"), (name in m.numbers, "M3")))
+    yield first(
+        (
+            (len(m.types) >= 32, "M1"),
+            (number > 65535, "M12"),
+            (number in m.types, "M2"),
+            (not is_good(name) or name in NO_TYPES, "M15"),
+            (name in m.numbers, "M3"),
+        )
+    )
     m.types[number], m.numbers[name] = name, number
 
 
 def tunable(m, reader):
     name, value = reader.one_of(*TUNABLES), reader.value(number_of)
     _, low, high = TUNABLES[name]
-    yield first(((name in m.tunables, "M3"), (high is not None and not low <= value <= high, "M12"), (name in LOCAL and value != 0, "M13")))
+    yield first(
+        (
+            (name in m.tunables, "M3"),
+            (high is not None and not low <= value <= high, "M12"),
+            (name in LOCAL and value != 0, "M13"),
+        )
+    )
     m.tunables[name] = value
 
 
@@ -201,10 +236,18 @@ def bucket(m, reader, kind):
     items = bucket_items(reader)
     reader.one_of(b"}")
     items = in_place(items)
-    yield first((
-        (len(m.buckets) >= 1024, "M1"), (not -65536 <= plain <= -1, "M12"), (plain in (it[0] for it in m.buckets), "M2"), (not is_good(name), "M15"), (name in m.ids, "M3"),
-        (kind not in m.numbers, "M4"), (m.numbers.get(kind) == 0, "M9"), (len(items) > 4096, "M1"),
-    ))
+    yield first(
+        (
+            (len(m.buckets) >= 1024, "M1"),
+            (not -65536 <= plain <= -1, "M12"),
+            (plain in (it[0] for it in m.buckets), "M2"),
+            (not is_good(name), "M15"),
+            (name in m.ids, "M3"),
+            (kind not in m.numbers, "M4"),
+            (m.numbers.get(kind) == 0, "M9"),
+            (len(items) > 4096, "M1"),
+        )
+    )
     seen, placed = set(), []
     for it in items:
         yield first(((it.name not in m.ids, "M5"), (it.name in seen, "M6")))
@@ -212,7 +255,9 @@ def bucket(m, reader, kind):
         placed.append((it.name, m.weights[it.name] if it.weight is None else it.weight))
     total = sum(weight for _, weight in placed)
     is_heavy = alg == b"straw2" and any(weight >= 2**31 for _, weight in placed)
-    yield first(((alg == b"uniform" and len({weight for _, weight in placed}) > 1, "M8"), (total >= 2**32 or is_heavy, "M7")))
+    yield first(
+        ((alg == b"uniform" and len({weight for _, weight in placed}) > 1, "M8"), (total >= 2**32 or is_heavy, "M7"))
+    )
     m.buckets.append((plain, kind, name, alg, placed))
     m.ids[name], m.weights[name] = plain, total
 
@@ -245,7 +290,13 @@ def step_fault(m, step):
     if word == b"emit":
         return None
     _, how, count, kind = step
-    return first(((kind not in m.numbers, "M11"), (not -64 <= count <= 64, "M12"), (word == b"chooseleaf" and how == b"indep" and m.numbers.get(kind) == 0, "M14")))
+    return first(
+        (
+            (kind not in m.numbers, "M11"),
+            (not -64 <= count <= 64, "M12"),
+            (word == b"chooseleaf" and how == b"indep" and m.numbers.get(kind) == 0, "M14"),
+        )
+    )
 
 
 def rule(m, reader):
@@ -262,7 +313,16 @@ def rule(m, reader):
     while not reader.has(b"}"):
         steps.append(read_step(reader))
     kept = [it for it in steps if it[0] not in LOCAL_STEPS]
-    yield first(((len(m.rules) >= 64, "M1"), (number > 255, "M12"), (number in m.rules, "M2"), (not is_good(name), "M15"), (name in m.rule_names, "M3"), (not 1 <= len(kept) <= 32, "M1")))
+    yield first(
+        (
+            (len(m.rules) >= 64, "M1"),
+            (number > 255, "M12"),
+            (number in m.rules, "M2"),
+            (not is_good(name), "M15"),
+            (name in m.rule_names, "M3"),
+            (not 1 <= len(kept) <= 32, "M1"),
+        )
+    )
     for it in steps:
         yield step_fault(m, it)
     m.rules[number] = (name, kind, kept)
@@ -298,6 +358,7 @@ def read(text):
 
 def write(m):
     """The canonical text of a map."""
+
     def shown(it):
         return it if isinstance(it, bytes) else b"%d" % it
 

@@ -7,7 +7,12 @@ CASES = pathlib.Path(__file__).resolve().parent.parent / "program" / "cases"
 
 def tiny(device=0):
     """23 lines: one device in one uniform bucket, and one rule."""
-    return (CASES / "tiny.map").read_text().replace("device 0 osd.0", f"device {device} osd.{device}").replace(" item osd.0", f" item osd.{device}")
+    return (
+        (CASES / "tiny.map")
+        .read_text()
+        .replace("device 0 osd.0", f"device {device} osd.{device}")
+        .replace(" item osd.0", f" item osd.{device}")
+    )
 
 
 def with_line(text, number, line):
@@ -21,7 +26,9 @@ def hosts():
     """Two devices, each in a list bucket of its own; the second bucket weighs nothing."""
     head = tiny().split("\n")[:10]
     head[6:7] = ["device 0 osd.0", "device 1 osd.1"]
-    return "\n".join(head) + """
+    return (
+        "\n".join(head)
+        + """
 host h0 {
  id -2
  alg list
@@ -49,6 +56,7 @@ rule all {
  step emit
 }
 """
+    )
 
 
 def never_picked(kind):
@@ -57,10 +65,25 @@ def never_picked(kind):
     head = tiny().split("\n")[:10]
     head[2] = "tunable choose_total_tries 999"
     head[6:7] = ["device 0 osd.0", "device 1 osd.1"]
-    under = [f"host h{it} {{\n id {-2 - it}\n alg {kind}\n hash 0\n item osd.0 weight 1.0\n item osd.1 weight 0\n}}" for it in range(3)]
-    steps = ["set_choose_tries 1000", "set_chooseleaf_tries 1000", "take default", "chooseleaf firstn 64 type host", "emit"]
-    root = f"root default {{\n id -1\n alg {kind}\n hash 0\n" + "".join(f" item h{it} weight 1.0\n" for it in range(3)) + "}"
-    return "\n".join([*head, *under, root, "rule all {\n id 0\n type replicated", *(f" step {it}" for it in steps), "}\n"])
+    under = [
+        f"host h{it} {{\n id {-2 - it}\n alg {kind}\n hash 0\n item osd.0 weight 1.0\n item osd.1 weight 0\n}}"
+        for it in range(3)
+    ]
+    steps = [
+        "set_choose_tries 1000",
+        "set_chooseleaf_tries 1000",
+        "take default",
+        "chooseleaf firstn 64 type host",
+        "emit",
+    ]
+    root = (
+        f"root default {{\n id -1\n alg {kind}\n hash 0\n"
+        + "".join(f" item h{it} weight 1.0\n" for it in range(3))
+        + "}"
+    )
+    return "\n".join(
+        [*head, *under, root, "rule all {\n id 0\n type replicated", *(f" step {it}" for it in steps), "}\n"]
+    )
 
 
 def canonical_tiny(device=0):
@@ -104,7 +127,9 @@ rule all {{
 
 def duo():
     """Two devices in one uniform bucket."""
-    return with_line(with_line(tiny(), 15, " item osd.0 weight 1.0\n item osd.1 weight 1.0"), 7, "device 0 osd.0\ndevice 1 osd.1")
+    return with_line(
+        with_line(tiny(), 15, " item osd.0 weight 1.0\n item osd.1 weight 1.0"), 7, "device 0 osd.0\ndevice 1 osd.1"
+    )
 
 
 def three():
@@ -119,7 +144,9 @@ def one_host():
     for a leaf."""
     head = "\n".join([*tiny().split("\n")[:6], "device 0 osd.0", "device 1 osd.1", *tiny().split("\n")[7:10]])
     steps = " type replicated\n{} step take default\n step chooseleaf indep 0 type host\n step emit\n}}\n"
-    return head + """
+    return (
+        head
+        + """
 host h {
  id -1
  alg uniform
@@ -133,7 +160,11 @@ root default {
 }
 rule all {
  id 0
-""" + steps.format("") + "rule more {\n id 1\n" + steps.format(" step set_chooseleaf_tries 2\n")
+"""
+        + steps.format("")
+        + "rule more {\n id 1\n"
+        + steps.format(" step set_chooseleaf_tries 2\n")
+    )
 
 
 def with_devices(count, device=0):

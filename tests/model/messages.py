@@ -45,7 +45,15 @@ def item(number):
 
 def body(entries, kind="list", bucket=-1, x=0, r=0):
     items = [{"item": it, "weight": weight} for it, weight in entries]
-    return json.dumps({"bucket": {"id": bucket, "items": items, "kind": kind}, "r": r, "x": x}, separators=(",", ":")).encode()
+    return json.dumps(
+        {"bucket": {"id": bucket, "items": items, "kind": kind}, "r": r, "x": x}, separators=(",", ":")
+    ).encode()
+
+
+def pool_row(it, pairs):
+    """The row of a pool in the tables, behind its tenant's number."""
+    erasure, hashes = int(it["kind"] == "erasure"), int(it["hashpspool"])
+    return it["id"], it["name"], erasure, it["size"], it["rule"], it["pg_num"], it["pgp_num"], hashes, len(pairs)
 
 
 def stored_run():
@@ -134,7 +142,19 @@ def object_of(name, pool=1):
 def lies(epoch, group, seed, up, raw=None, version=1, **more):
     """The reply on a group; raw is up where it isn't given."""
     primary = next((it for it in up if it is not None), None)
-    return words(200, {"epoch": epoch, "group": group, "primary": primary, "raw": up if raw is None else raw, "seed": seed, "up": up, "version": version, **more})
+    return words(
+        200,
+        {
+            "epoch": epoch,
+            "group": group,
+            "primary": primary,
+            "raw": up if raw is None else raw,
+            "seed": seed,
+            "up": up,
+            "version": version,
+            **more,
+        },
+    )
 
 
 def summary(epoch, versions, devices=0, pools=0, tenant="a"):
@@ -172,7 +192,18 @@ def used(epoch, *rows, version=1, pool=1):
 def moved(epoch, first, second, *rows, pool=1):
     """Each row: the group, how many devices it gains, the old list and the new one."""
     named = [dict(zip(("group", "gained", "old", "new"), it)) for it in rows]
-    return words(200, {"epoch": epoch, "from": first, "gained": sum(it["gained"] for it in named), "moved": len(named), "pool": pool, "rows": named, "to": second})
+    return words(
+        200,
+        {
+            "epoch": epoch,
+            "from": first,
+            "gained": sum(it["gained"] for it in named),
+            "moved": len(named),
+            "pool": pool,
+            "rows": named,
+            "to": second,
+        },
+    )
 
 
 def touched(epoch, device, groups, version=1, pool=1):

@@ -24,9 +24,15 @@ class Placed:
         read = map_text.read(text.encode())
         types = {name: number for name, number in read.numbers.items()}
         self.names = {number: name.decode() for number, name in read.devices.items()}
-        buckets = [(number, types[kind], alg.decode(), [(read.ids[item], weight) for item, weight in items]) for number, kind, _, alg, items in read.buckets]
+        buckets = [
+            (number, types[kind], alg.decode(), [(read.ids[item], weight) for item, weight in items])
+            for number, kind, _, alg, items in read.buckets
+        ]
         legacy = {b"choose_total_tries": 19}
-        tunables = [read.tunables.get(it, legacy.get(it, 0)) for it in (b"choose_total_tries", b"chooseleaf_descend_once", b"chooseleaf_vary_r", b"chooseleaf_stable")]
+        tunables = [
+            read.tunables.get(it, legacy.get(it, 0))
+            for it in (b"choose_total_tries", b"chooseleaf_descend_once", b"chooseleaf_vary_r", b"chooseleaf_stable")
+        ]
         steps = [step_of(read, types, it) for it in read.rules[rule][2]]
         picks, reweights = choosing.Picks(buckets), dict(reweights)
         self.seeds = [crush.hash2(crush.stable_mod(group, pg_num), pool) for group in range(pg_num)]
@@ -38,7 +44,9 @@ class Placed:
         for group, raw in enumerate(self.raw):
             own = [(old, new) for of, old, new in pairs if of == group]
             items = excepted(raw, own, lambda device: device in self.names and reweights.get(device, WHOLE) > 0)
-            self.up.append([it if is_up(it) else None for it in items] if erasure else [it for it in items if is_up(it)])
+            self.up.append(
+                [it if is_up(it) else None for it in items] if erasure else [it for it in items if is_up(it)]
+            )
 
     def primary(self, group):
         return next((it for it in self.up[group] if it is not None), None)
@@ -51,7 +59,12 @@ class Placed:
         for device in sorted(self.names):
             entries = sum(it.count(device) for it in self.up)
             primaries = sum(self.primary(group) == device for group in range(len(self.up)))
-            found[device] = (sum(device in it for it in self.up), entries, primaries, entries * 1000 // whole if whole else 0)
+            found[device] = (
+                sum(device in it for it in self.up),
+                entries,
+                primaries,
+                entries * 1000 // whole if whole else 0,
+            )
         return found
 
     def usage(self):

@@ -20,11 +20,17 @@ class Version:
     def __init__(self, text):
         self.map = map_text.read(text)
         types, ids = self.map.numbers, self.map.ids
-        self.picks = choosing.Picks([(number, types[kind], alg.decode(), [(ids[it], weight) for it, weight in items])
-            for number, kind, _, alg, items in self.map.buckets])
+        self.picks = choosing.Picks(
+            [
+                (number, types[kind], alg.decode(), [(ids[it], weight) for it, weight in items])
+                for number, kind, _, alg, items in self.map.buckets
+            ]
+        )
         self.tunables = [self.map.tunables.get(it, LEGACY.get(it, 0)) for it in RULE_TUNABLES]
-        self.rules = {number: [placed.step_of(self.map, types, it) for it in steps] for number,
-            (_, _, steps) in self.map.rules.items()}
+        self.rules = {
+            number: [placed.step_of(self.map, types, it) for it in steps]
+            for number, (_, _, steps) in self.map.rules.items()
+        }
 
     @functools.cached_property
     def text(self):
@@ -104,16 +110,26 @@ class Tenant:
         return messages.summary(self.epoch(), len(self.versions), len(self.states), len(self.pools), self.name)
 
     def version(self, number):
-        return messages.version_of(self.versions[number - 1].text,
-            number) if 1 <= number <= len(self.versions) else messages.NO_VERSION
+        return (
+            messages.version_of(self.versions[number - 1].text, number)
+            if 1 <= number <= len(self.versions)
+            else messages.NO_VERSION
+        )
 
     def group(self, pool, group, **more):
         if group >= pool["pg_num"]:
             return messages.NO_GROUP
         seed = self.seed(pool, group)
         raw = self.answer_of(self.newest(), pool, seed)[0]
-        return messages.lies(self.epoch(), group, seed,
-            self.up(self.newest(), pool, raw, self.pairs_by_group(pool)[group]), raw, len(self.versions), **more)
+        return messages.lies(
+            self.epoch(),
+            group,
+            seed,
+            self.up(self.newest(), pool, raw, self.pairs_by_group(pool)[group]),
+            raw,
+            len(self.versions),
+            **more,
+        )
 
     def usage(self, pool):
         groups, entries, primaries = (collections.Counter() for _ in range(3))
@@ -123,8 +139,10 @@ class Tenant:
             groups.update(set(there))
             primaries.update(there[:1])
         whole = sum(entries.values())
-        rows = [(it, groups[it], entries[it], primaries[it], entries[it] * 1000 // whole if whole else 0)
-            for it in sorted(self.newest().map.devices)]
+        rows = [
+            (it, groups[it], entries[it], primaries[it], entries[it] * 1000 // whole if whole else 0)
+            for it in sorted(self.newest().map.devices)
+        ]
         return messages.used(self.epoch(), *rows, version=len(self.versions), pool=pool["id"])
 
     def moves(self, pool, first, second):
@@ -141,8 +159,11 @@ class Tenant:
         if device not in self.newest().map.devices:
             return messages.NO_DEVICE
         led = {group for group, _, new in self.pairs[pool["id"]] if new == device}
-        groups = [group for group, seed in enumerate(self.seeds(pool)) if group in led
-            or device in self.answer_of(self.newest(), pool, seed)[1]]
+        groups = [
+            group
+            for group, seed in enumerate(self.seeds(pool))
+            if group in led or device in self.answer_of(self.newest(), pool, seed)[1]
+        ]
         return messages.touched(self.epoch(), device, groups, len(self.versions), pool["id"])
 
     def exceptions(self, pool):
@@ -193,8 +214,10 @@ class Tenant:
 
     def change_by_csv(self, asked, epoch):
         rows = [it.split(",") for it in asked["csv"].splitlines()[1:]]
-        return self.change_devices({"devices": [{"id": int(id), "reweight": int(reweight), "up": up == "1"} for id,
-            reweight, up in rows]}, epoch)
+        return self.change_devices(
+            {"devices": [{"id": int(id), "reweight": int(reweight), "up": up == "1"} for id, reweight, up in rows]},
+            epoch,
+        )
 
     def create_pool(self, asked, epoch):
         if not self.versions:
@@ -233,8 +256,11 @@ class Tenant:
         return messages.excepted(epoch, len(pairs), asked["id"]), lambda: self.pairs.update({asked["id"]: pairs})
 
     CHANGING = {
-        ("maps",): import_map, ("devices",): change_devices, ("devices", "csv"): change_by_csv, ("pools",): create_pool,
-            ("pools", "remove"): remove_pool,
+        ("maps",): import_map,
+        ("devices",): change_devices,
+        ("devices", "csv"): change_by_csv,
+        ("pools",): create_pool,
+        ("pools", "remove"): remove_pool,
         ("pools", "exceptions"): except_groups,
     }
 
@@ -262,8 +288,13 @@ class Tenant:
             return self.version(int(rest[1]))
         if int(rest[1]) not in self.pools:
             return messages.NO_POOL
-        report = {"groups": self.group, "usage": self.usage, "moves": self.moves, "impact": self.impact,
-            "exceptions": self.exceptions}[rest[2]]
+        report = {
+            "groups": self.group,
+            "usage": self.usage,
+            "moves": self.moves,
+            "impact": self.impact,
+            "exceptions": self.exceptions,
+        }[rest[2]]
         return report(self.pools[int(rest[1])], *map(int, rest[3:]))
 
     def post(self, rest, path, sent):
@@ -278,15 +309,15 @@ class Tenant:
 
     def rows(self):
         pools = sorted(self.pools.values(), key=lambda it: it["id"])
-        columns = lambda it: (it["id"], it["name"], int(it["kind"] == "erasure"), it["size"], it["rule"], it["pg_num"],
-            it["pgp_num"], int(it["hashpspool"]), len(self.pairs[it["id"]]))
-        receipts = [(request, path.decode(), sent.decode(), int(reply[:3]), reply[4:].decode()) for request,
-            (path, sent, reply) in self.receipts.items()]
+        receipts = [
+            (request, path.decode(), sent.decode(), int(reply[:3]), reply[4:].decode())
+            for request, (path, sent, reply) in self.receipts.items()
+        ]
         return {
             "epoch": self.epoch(),
             "maps": [(number, it.text) for number, it in enumerate(self.versions, 1)],
             "devices": sorted((device, reweight, int(up)) for device, (reweight, up) in self.states.items()),
-            "pools_2": [columns(it) for it in pools],
+            "pools_2": [messages.pool_row(it, self.pairs[it["id"]]) for it in pools],
             "exceptions": [(it["id"], place, *pair) for it in pools for place, pair in enumerate(self.pairs[it["id"]])],
             "receipts": sorted(receipts, key=lambda row: row[0].encode()),
         }

@@ -18,7 +18,11 @@ def asks(drawn, tenant):
     """A request for a group or an object, of two pools with few of each, so that most of them come
     again."""
     pool = drawn.choice((1, 1, 2))
-    line = messages.group_of(drawn.randrange(3), pool) if drawn.random() < 0.7 else messages.object_of(drawn.choice("ab"), pool)
+    line = (
+        messages.group_of(drawn.randrange(3), pool)
+        if drawn.random() < 0.7
+        else messages.object_of(drawn.choice("ab"), pool)
+    )
     return of(tenant, line)
 
 
@@ -29,7 +33,11 @@ def changes(drawn, tenant, number, device):
     request = f"{tenant.decode()}{number}"
     kind = drawn.randrange(5)
     if kind < 2:
-        lines = [messages.devices_of(request, messages.state(device, up=drawn.random() < 0.5, reweight=drawn.choice((0, 65536))))]
+        lines = [
+            messages.devices_of(
+                request, messages.state(device, up=drawn.random() < 0.5, reweight=drawn.choice((0, 65536)))
+            )
+        ]
     elif kind == 2:
         device = drawn.randrange(10)
         lines = [messages.import_of(maps.tiny(device), request)]
@@ -46,7 +54,12 @@ def calls_of(names):
     drawn = random.Random(7)
     devices, lines = {name: place for place, name in enumerate(names)}, []
     for name in names:
-        first = [b"PUT /t/a", messages.import_of(maps.tiny(devices[name])), messages.pool_of("p1"), messages.pool_of("p2", id=2, name="q")]
+        first = [
+            b"PUT /t/a",
+            messages.import_of(maps.tiny(devices[name])),
+            messages.pool_of("p1"),
+            messages.pool_of("p2", id=2, name="q"),
+        ]
         lines += [of(name, it) for it in first]
     while len(lines) < CALLS:
         name = drawn.choice(names)
@@ -73,7 +86,14 @@ def exceptions_between():
     both = lambda pool: [messages.group_of(0, pool), messages.object_of("a", pool)]  # the object's group is 0
     asked = [it for _ in range(3) for pool in (1, 2) for it in both(pool)]
     lists = [((0, 0, 1),), ((0, 0, 2),), ((0, 0, 1), (0, 1, 2)), ((0, 1, 2), (0, 0, 1)), ((1, 0, 1),), (), ((0, 0, 1),)]
-    lines = [b"PUT /t/a", messages.import_of(declaring(0)), messages.pool_of("p1"), messages.pool_of("p2", id=2, name="q"), messages.exceptions_of("q1", (0, 0, 2), pool=2), *asked]
+    lines = [
+        b"PUT /t/a",
+        messages.import_of(declaring(0)),
+        messages.pool_of("p1"),
+        messages.pool_of("p2", id=2, name="q"),
+        messages.exceptions_of("q1", (0, 0, 2), pool=2),
+        *asked,
+    ]
     for place, pairs in enumerate(lists):
         lines += [messages.exceptions_of(f"x{place}", *pairs), *asked]
     for place, entry in enumerate(({"reweight": 0}, {"reweight": 1}, {"up": False}, {"up": True})):
@@ -87,10 +107,23 @@ def one_content_too_many():
     """The groups of 256 tenants with maps of their own, those of one more, and the first ones'
     again, after a change of states as well."""
     names = [b"t%d" % it for it in range(CONTENTS + 1)]
-    lines = [of(name, it) for place, name in enumerate(names) for it in (b"PUT /t/a", messages.import_of(maps.tiny(place)), messages.pool_of("p1"))]
+    lines = [
+        of(name, it)
+        for place, name in enumerate(names)
+        for it in (b"PUT /t/a", messages.import_of(maps.tiny(place)), messages.pool_of("p1"))
+    ]
     ask = lambda names: [of(name, messages.group_of(group)) for name in names for group in (3, 3, 4)]
     down = [of(names[0], messages.devices_of("d1", messages.state(0, up=False)))]
-    return lines + ask(names[:-1]) + ask(names[:1]) + ask(names[-1:]) + ask(names[:2]) + down + ask(names[:1]) + ask(names[-1:])
+    return (
+        lines
+        + ask(names[:-1])
+        + ask(names[:1])
+        + ask(names[-1:])
+        + ask(names[:2])
+        + down
+        + ask(names[:1])
+        + ask(names[-1:])
+    )
 
 
 def states_between():

@@ -8,7 +8,51 @@ from model import crush
 from model.maps import hosts, taking, tiny, with_devices
 from model.placed import Placed
 from program.pool_cases import without
-from model.messages import BAD, METHOD, NO_DEVICE, NO_GROUP, NO_PATH, NO_POOL, NO_TENANT, REUSED, SECOND, SEED, START, TWO, accepted, created, devices_of, dropped, excepted, exceptions_of, group_of, impact_of, import_of, imported, lies, made, moved, moves_of, object_of, of_b, pairs_of, pool_of, post, removal_of, removed, seed_of, shown, shown_of, state, summary, test_of, tested, touched, usage_of, used
+from model.messages import (
+    BAD,
+    METHOD,
+    NO_DEVICE,
+    NO_GROUP,
+    NO_PATH,
+    NO_POOL,
+    NO_TENANT,
+    REUSED,
+    SECOND,
+    SEED,
+    START,
+    TWO,
+    accepted,
+    created,
+    devices_of,
+    dropped,
+    excepted,
+    exceptions_of,
+    group_of,
+    impact_of,
+    import_of,
+    imported,
+    lies,
+    made,
+    moved,
+    moves_of,
+    object_of,
+    of_b,
+    pairs_of,
+    pool_of,
+    post,
+    removal_of,
+    removed,
+    seed_of,
+    shown,
+    shown_of,
+    state,
+    summary,
+    test_of,
+    tested,
+    touched,
+    usage_of,
+    used,
+)
 
 CLUSTER = (pathlib.Path(__file__).resolve().parent.parent.parent / "examples" / "cluster.txt").read_text()
 
@@ -21,7 +65,10 @@ def first_exceptions():
     return START + [
         (import_of(with_devices(2)), imported(1, 1)),
         (pool_of("p1", **TWO), created(2)),
-        (b'POST /t/a/pools/exceptions {"exceptions":[{"from":0,"group":0,"to":1}],"id":1,"request":"x1"}', b'200 {"epoch":3,"exceptions":1,"pool":1}'),
+        (
+            b'POST /t/a/pools/exceptions {"exceptions":[{"from":0,"group":0,"to":1}],"id":1,"request":"x1"}',
+            b'200 {"epoch":3,"exceptions":1,"pool":1}',
+        ),
         (group_of(0), b'200 {"epoch":3,"group":0,"primary":1,"raw":[0],"seed":91478055,"up":[1],"version":1}'),
         (b"GET /t/a/pools/1/exceptions", b'200 {"epoch":3,"exceptions":[{"from":0,"group":0,"to":1}],"pool":1}'),
         (devices_of("d1", state(1, reweight=0)), accepted(1, 4)),
@@ -43,12 +90,25 @@ def first_exceptions():
 def pairs_in_their_order():
     """One pair after the other changes the list; pairs of other groups may stand between."""
     lists = [
-        ([(0, 0, 1), (0, 1, 2)], [2]), ([(0, 1, 2), (0, 0, 1)], [1]), ([(0, 0, 1), (0, 0, 2)], [1]), ([(0, 0, 2), (0, 0, 1)], [2]), ([(0, 0, 1), (0, 1, 2), (0, 2, 3), (0, 3, 0)], [0]),
-        ([(0, 0, 1), (0, 1, 0), (0, 0, 3)], [3]), ([(1, 0, 3), (0, 0, 1), (1, 3, 1), (0, 1, 2), (1, 1, 0)], [2]), ([(0, 0, 1), (0, 0, 1)], [1]), ([(0, 2, 3)], [0]), ([], [0]),
+        ([(0, 0, 1), (0, 1, 2)], [2]),
+        ([(0, 1, 2), (0, 0, 1)], [1]),
+        ([(0, 0, 1), (0, 0, 2)], [1]),
+        ([(0, 0, 2), (0, 0, 1)], [2]),
+        ([(0, 0, 1), (0, 1, 2), (0, 2, 3), (0, 3, 0)], [0]),
+        ([(0, 0, 1), (0, 1, 0), (0, 0, 3)], [3]),
+        ([(1, 0, 3), (0, 0, 1), (1, 3, 1), (0, 1, 2), (1, 1, 0)], [2]),
+        ([(0, 0, 1), (0, 0, 1)], [1]),
+        ([(0, 2, 3)], [0]),
+        ([], [0]),
     ]
     rows = START + [(import_of(with_devices(4)), imported(1, 1)), (pool_of("p1", **TWO), created(2))]
     for epoch, (pairs, up) in enumerate(lists, 3):
-        rows += [(exceptions_of(f"x{epoch}", *pairs), excepted(epoch, len(pairs))), (group_of(0), lies(epoch, 0, SEED, up, [0])), (group_of(1), lies(epoch, 1, seed_of(1), [0])), (shown_of(), shown(epoch, *pairs))]
+        rows += [
+            (exceptions_of(f"x{epoch}", *pairs), excepted(epoch, len(pairs))),
+            (group_of(0), lies(epoch, 0, SEED, up, [0])),
+            (group_of(1), lies(epoch, 1, seed_of(1), [0])),
+            (shown_of(), shown(epoch, *pairs)),
+        ]
     return rows
 
 
@@ -56,9 +116,18 @@ def devices_of_a_list():
     """The first `from` becomes `to`, where `to` isn't in the list; raw stays, and so does what a
     rule test says."""
     cases = [
-        ([0, 1], [(0, 0, 2)], [2, 1]), ([0, 1], [(0, 1, 2)], [0, 2]), ([0, 1], [(0, 0, 1)], [0, 1]), ([0, 1], [(0, 1, 0)], [0, 1]), ([0, 1], [(0, 2, 3)], [0, 1]),
-        ([0, 0, 1], [(0, 0, 3)], [3, 0, 1]), ([0, 0, 1], [(0, 0, 3), (0, 0, 2)], [3, 2, 1]), ([0, 0, 1], [(0, 0, 3), (0, 0, 3)], [3, 0, 1]), ([1, 0, 1], [(0, 1, 2)], [2, 0, 1]),
-        ([0, 1, 2], [(0, 0, 1), (0, 1, 3)], [0, 3, 2]), ([0, 1, 2], [(0, 1, 3), (0, 0, 1)], [1, 3, 2]), ([0, 1, 2], [(0, 0, 3), (0, 1, 0), (0, 3, 1)], [1, 0, 2]),
+        ([0, 1], [(0, 0, 2)], [2, 1]),
+        ([0, 1], [(0, 1, 2)], [0, 2]),
+        ([0, 1], [(0, 0, 1)], [0, 1]),
+        ([0, 1], [(0, 1, 0)], [0, 1]),
+        ([0, 1], [(0, 2, 3)], [0, 1]),
+        ([0, 0, 1], [(0, 0, 3)], [3, 0, 1]),
+        ([0, 0, 1], [(0, 0, 3), (0, 0, 2)], [3, 2, 1]),
+        ([0, 0, 1], [(0, 0, 3), (0, 0, 3)], [3, 0, 1]),
+        ([1, 0, 1], [(0, 1, 2)], [2, 0, 1]),
+        ([0, 1, 2], [(0, 0, 1), (0, 1, 3)], [0, 3, 2]),
+        ([0, 1, 2], [(0, 1, 3), (0, 0, 1)], [1, 3, 2]),
+        ([0, 1, 2], [(0, 0, 3), (0, 1, 0), (0, 3, 1)], [1, 0, 2]),
     ]
     rows, epoch = [*START], 0
     for version, (raw, pairs, up) in enumerate(cases, 1):
@@ -78,9 +147,16 @@ def devices_of_a_list():
 def a_device_that_is_out():
     """A pair whose `to` has reweight 0 is passed over; with any other it isn't, whatever the draw
     says. It is by reweights as they are. `from` may have any."""
-    rows = START + [(import_of(with_devices(3)), imported(1, 1)), (pool_of("p1", **TWO), created(2)), (exceptions_of("x1", (0, 0, 1)), excepted(3, 1))]
+    rows = START + [
+        (import_of(with_devices(3)), imported(1, 1)),
+        (pool_of("p1", **TWO), created(2)),
+        (exceptions_of("x1", (0, 0, 1)), excepted(3, 1)),
+    ]
     for epoch, (reweight, up) in enumerate(((0, [0]), (1, [1]), (32768, [1]), (0, [0]), (65536, [1])), 4):
-        rows += [(devices_of(f"d{epoch}", state(1, reweight=reweight)), accepted(1, epoch)), (group_of(0), lies(epoch, 0, SEED, up, [0]))]
+        rows += [
+            (devices_of(f"d{epoch}", state(1, reweight=reweight)), accepted(1, epoch)),
+            (group_of(0), lies(epoch, 0, SEED, up, [0])),
+        ]
     assert crush.hash2(SEED, 1) & 0xFFFF >= 32768  # the draw that a rule makes
     return rows + [
         (exceptions_of("x2", (0, 0, 1), (0, 1, 2)), excepted(9, 2)),
@@ -190,7 +266,13 @@ def objects():
 def lists_of_pools():
     """A request replaces the whole list of its pool and none of another's; a pool that is removed
     takes its list along, and so does a tenant."""
-    end = [(shown_of(), NO_POOL), (import_of(with_devices(4)), imported(1, 1)), (pool_of("p1", **TWO), created(2)), (shown_of(), shown(2)), (group_of(0), lies(2, 0, SEED, [0]))]
+    end = [
+        (shown_of(), NO_POOL),
+        (import_of(with_devices(4)), imported(1, 1)),
+        (pool_of("p1", **TWO), created(2)),
+        (shown_of(), shown(2)),
+        (group_of(0), lies(2, 0, SEED, [0])),
+    ]
     return START + [
         (shown_of(), NO_POOL),
         (import_of(with_devices(4)), imported(1, 1)),
@@ -284,7 +366,10 @@ def repeats_of_exceptions():
         (exceptions_of("x1", (0, 0, 9)), REUSED),
         (exceptions_of("x1", (0, 0, 1), pool=2), REUSED),
         (exceptions_of("x1", (0, 0, 0)), BAD),  # a body out of its form is refused first
-        (post("pools/exceptions", {"id": 1, "request": "x1", "exceptions": pairs_of([(0, 0, 1)])}), REUSED),  # the same keys in another order
+        (
+            post("pools/exceptions", {"id": 1, "request": "x1", "exceptions": pairs_of([(0, 0, 1)])}),
+            REUSED,
+        ),  # the same keys in another order
         (pool_of("x1", id=2, name="q"), REUSED),
         (removal_of("x1"), REUSED),
         (import_of(tiny(), "x1"), REUSED),
@@ -304,7 +389,11 @@ def repeats_of_exceptions():
 def pair_limit():
     """1,024 pairs, of any groups and the same ones too, and one more."""
     drawn = random.Random(15)
-    pairs = [(0, 0, 1)] * 3 + [(drawn.randrange(2), *drawn.sample(range(64), 2)) for _ in range(1018)] + [(1, 0, 5), (0, 63, 0), (0, 0, 63)]
+    pairs = (
+        [(0, 0, 1)] * 3
+        + [(drawn.randrange(2), *drawn.sample(range(64), 2)) for _ in range(1018)]
+        + [(1, 0, 5), (0, 63, 0), (0, 0, 63)]
+    )
     lists = {group: [0] for group in range(2)}
     for group, old, new in pairs:
         if old in lists[group] and new not in lists[group]:
@@ -332,18 +421,42 @@ def forms_of_exceptions():
     pair = {"group": 65535, "from": 65535, "to": 0}
     body = {"request": "x", "id": 1, "exceptions": [pair]}
     wrong_pairs = [
-        *({**pair, key: value} for key in pair for value in (-1, 65536, 4294967296, 1.0, 0.5, "1", None, True, [], {})), {**pair, "from": 0}, {**pair, "to": 65535}, {**pair, "more": 0},
-        *(without(pair, key) for key in pair), {}, 1, None, [], [0, 0, 1], "0",
+        *({**pair, key: value} for key in pair for value in (-1, 65536, 4294967296, 1.0, 0.5, "1", None, True, [], {})),
+        {**pair, "from": 0},
+        {**pair, "to": 65535},
+        {**pair, "more": 0},
+        *(without(pair, key) for key in pair),
+        {},
+        1,
+        None,
+        [],
+        [0, 0, 1],
+        "0",
     ]
     wrong = [
-        *({**body, "exceptions": [it]} for it in wrong_pairs), {**body, "exceptions": [pair, {**pair, "to": 65535}]}, {**body, "exceptions": [wrong_pairs[0], pair]},
-        *({**body, "exceptions": it} for it in (None, pair, {}, 0, "", True)), *({**body, "id": it} for it in (0, -1, 2147483648, 4294967297, 1.0, "1", None, True)),
-        *({**body, "request": it} for it in ("", "r" * 65, 1, None)), {**body, "more": 0}, {**body, "pool": 1}, *(without(body, it) for it in body), {}, [], 1,
+        *({**body, "exceptions": [it]} for it in wrong_pairs),
+        {**body, "exceptions": [pair, {**pair, "to": 65535}]},
+        {**body, "exceptions": [wrong_pairs[0], pair]},
+        *({**body, "exceptions": it} for it in (None, pair, {}, 0, "", True)),
+        *({**body, "id": it} for it in (0, -1, 2147483648, 4294967297, 1.0, "1", None, True)),
+        *({**body, "request": it} for it in ("", "r" * 65, 1, None)),
+        {**body, "more": 0},
+        {**body, "pool": 1},
+        *(without(body, it) for it in body),
+        {},
+        [],
+        1,
     ]
     full = dict(pg_num=65536, pgp_num=65536)
-    rows = START + [(import_of(with_devices(1).replace("type 0 osd", "device 65535 osd.65535\ntype 0 osd")), imported(1, 1)), (pool_of("p1", **full), created(2))]
+    rows = START + [
+        (import_of(with_devices(1).replace("type 0 osd", "device 65535 osd.65535\ntype 0 osd")), imported(1, 1)),
+        (pool_of("p1", **full), created(2)),
+    ]
     rows += [(post("pools/exceptions", it), BAD) for it in wrong]
-    rows += [(b"GET /t/a/pools/%s/exceptions" % it, BAD) for it in (b"x", b"-1", b"+1", b"1.0", b"00000000001", b"%31", b"remove", b"exceptions")]
+    rows += [
+        (b"GET /t/a/pools/%s/exceptions" % it, BAD)
+        for it in (b"x", b"-1", b"+1", b"1.0", b"00000000001", b"%31", b"remove", b"exceptions")
+    ]
     return rows + [
         (b"POST /t/a/pools/exceptions", BAD),
         (b"POST /t/a/pools/exceptions {", BAD),
@@ -378,7 +491,14 @@ def forms_of_exceptions():
         (pool_of("p2", id=2147483647, name="q", pg_num=1, pgp_num=1), created(5, 2147483647)),
         (exceptions_of("y", (1, 0, 65535), pool=2147483647), NO_GROUP),
         (exceptions_of("y", (0, 0, 65535), pool=2147483647), excepted(6, 1, 2147483647)),
-        (b'POST /t/a/pools/exceptions {"request":"z","id":7,"exceptions":[{"to":65535,"from":65535,"group":3,"\\u0066rom":0}],"\\u0069d":1}', excepted(7, 1)),  # of a key twice the last counts
+        (
+            (
+                b"POST /t/a/pools/exceptions"
+                b' {"request":"z","id":7,"exceptions":[{"to":65535,"from":65535,"group":3,"\\u0066rom":0}],'
+                b'"\\u0069d":1}'
+            ),
+            excepted(7, 1),
+        ),  # of a key twice the last counts
         (shown_of(), shown(7, (3, 0, 65535))),
         (post("pools/exceptions", {"exceptions": [], "request": "w", "id": 1}), excepted(8, 0)),
         (b"GET /t/a", summary(8, 1, 0, 2)),
@@ -404,14 +524,21 @@ def usage_with_exceptions():
         (import_of(taking(0, 0, 1), "m2"), imported(6, 2)),
         (pool_of("p2", size=3, **SECOND), created(7, 2)),
         (exceptions_of("x2", (0, 0, 3), pool=2), excepted(8, 1, 2)),
-        (usage_of(2), used(8, (0, 2, 3, 1, 500), (1, 2, 2, 0, 333), (2, 0, 0, 0, 0), (3, 1, 1, 1, 166), version=2, pool=2)),
+        (
+            usage_of(2),
+            used(8, (0, 2, 3, 1, 500), (1, 2, 2, 0, 333), (2, 0, 0, 0, 0), (3, 1, 1, 1, 166), version=2, pool=2),
+        ),
     ]
 
 
 def groups_of_one_place():
     """Where groups share what the rule answers, since pgp_num is less than pg_num, a pair is still
     of its own group alone."""
-    rows = START + [(import_of(with_devices(2)), imported(1, 1)), (pool_of("p1", pg_num=4, pgp_num=1), created(2)), (exceptions_of("x1", (3, 0, 1)), excepted(3, 1))]
+    rows = START + [
+        (import_of(with_devices(2)), imported(1, 1)),
+        (pool_of("p1", pg_num=4, pgp_num=1), created(2)),
+        (exceptions_of("x1", (3, 0, 1)), excepted(3, 1)),
+    ]
     rows += [(group_of(it), lies(3, it, SEED, [int(it == 3)], [0])) for it in range(4)]
     return rows + [
         (usage_of(), used(3, (0, 3, 3, 3, 750), (1, 1, 1, 1, 250))),
@@ -481,7 +608,10 @@ def clusters():
     and all reports, with devices that are out, reweighted and down."""
     rows, size, groups = START + [(import_of(CLUSTER), imported(1, 1))], 3, 32
     shape = dict(size=size, pg_num=groups, pgp_num=groups)
-    rows += [(pool_of("p1", **shape), created(2)), (pool_of("p2", id=2, name="q", kind="erasure", **shape), created(3, 2))]
+    rows += [
+        (pool_of("p1", **shape), created(2)),
+        (pool_of("p2", id=2, name="q", kind="erasure", **shape), created(3, 2)),
+    ]
     epoch, drawn = 3, random.Random(48)
     for place in range(4):
         reweights = {} if place == 0 else {it: drawn.choice((0, 0, 1, 32768, 65536)) for it in range(12)}
@@ -496,14 +626,26 @@ def clusters():
             pairs = []
             for _ in range(80):
                 group = drawn.randrange(groups)
-                old = drawn.choice([it for it in raw[group] if it is not None] or [0]) if drawn.random() < 0.7 else drawn.randrange(12)
+                old = (
+                    drawn.choice([it for it in raw[group] if it is not None] or [0])
+                    if drawn.random() < 0.7
+                    else drawn.randrange(12)
+                )
                 pairs.append((group, old, drawn.choice([it for it in range(12) if it != old])))
             epoch += 1
             rows.append((exceptions_of(f"x{epoch}", *pairs, pool=pool), excepted(epoch, len(pairs), pool)))
             with_pairs = Placed(CLUSTER, pairs=pairs, **how)
             assert with_pairs.up != plain.up
-            rows += [(group_of(it, pool), lies(epoch, it, with_pairs.seeds[it], with_pairs.up[it], raw[it])) for it in range(groups)]
-            rows.append((usage_of(pool), used(epoch, *((device, *row) for device, row in with_pairs.entries().items()), pool=pool)))
+            rows += [
+                (group_of(it, pool), lies(epoch, it, with_pairs.seeds[it], with_pairs.up[it], raw[it]))
+                for it in range(groups)
+            ]
+            rows.append(
+                (
+                    usage_of(pool),
+                    used(epoch, *((device, *row) for device, row in with_pairs.entries().items()), pool=pool),
+                )
+            )
             rows += [(impact_of(it, pool), touched(epoch, it, with_pairs.impact(it), pool=pool)) for it in range(12)]
             rows.append((shown_of(pool), shown(epoch, *pairs, pool=pool)))
     return rows
@@ -511,7 +653,23 @@ def clusters():
 
 def cases():
     for make in (
-        first_exceptions, pairs_in_their_order, devices_of_a_list, a_device_that_is_out, a_device_that_is_down, no_device_in_a_list, a_device_that_a_version_lacks, objects, lists_of_pools,
-        checks_of_exceptions, repeats_of_exceptions, pair_limit, forms_of_exceptions, usage_with_exceptions, groups_of_one_place, moves_with_exceptions, impact_with_exceptions, clusters,
+        first_exceptions,
+        pairs_in_their_order,
+        devices_of_a_list,
+        a_device_that_is_out,
+        a_device_that_is_down,
+        no_device_in_a_list,
+        a_device_that_a_version_lacks,
+        objects,
+        lists_of_pools,
+        checks_of_exceptions,
+        repeats_of_exceptions,
+        pair_limit,
+        forms_of_exceptions,
+        usage_with_exceptions,
+        groups_of_one_place,
+        moves_with_exceptions,
+        impact_with_exceptions,
+        clusters,
     ):
         yield make.__name__, make()

@@ -3,7 +3,30 @@ are small enough to be answered by hand."""
 import pathlib
 
 from model.maps import canonical_tiny, hosts, marked, never_picked, tiny, with_line
-from model.messages import BAD, EXISTS, LIMIT, METHOD, NO_PATH, NO_RULE, NO_TENANT, NO_VERSION, REUSED, START, TOO_LARGE, dropped, import_of, imported, made, of_b, post, refused, summary, test_of, tested, version_of
+from model.messages import (
+    BAD,
+    EXISTS,
+    LIMIT,
+    METHOD,
+    NO_PATH,
+    NO_RULE,
+    NO_TENANT,
+    NO_VERSION,
+    REUSED,
+    START,
+    TOO_LARGE,
+    dropped,
+    import_of,
+    imported,
+    made,
+    of_b,
+    post,
+    refused,
+    summary,
+    test_of,
+    tested,
+    version_of,
+)
 from program import straw2_cases
 
 HERE = pathlib.Path(__file__).resolve().parent
@@ -84,7 +107,9 @@ def rule_tests():
     rack = with_line(tiny(), 10, "type 10 root\ntype 3 rack")
     firstn_rack = with_line(rack, 22, " step choose firstn 1 type rack")
     indep_rack = with_line(rack, 22, " step choose indep 1 type rack")
-    empty = with_line(with_line(tiny(), 15, " item e weight 1.0"), 10, "type 10 root\nhost e {\n id -2\n alg uniform\n hash 0\n}")
+    empty = with_line(
+        with_line(tiny(), 15, " item e weight 1.0"), 10, "type 10 root\nhost e {\n id -2\n alg uniform\n hash 0\n}"
+    )
     firstn_empty = with_line(empty, 26, " step choose firstn 1 type osd")
     indep_empty = with_line(empty, 26, " step choose indep 1 type osd")
     takes = with_line(tiny(5), 7, "device 5 osd.5\ndevice 6 osd.6")
@@ -211,7 +236,14 @@ def canonical_texts():
     """A text as crushtool writes it, without what canonical texts drop; weights are rounded down to
     65536ths, and written rounded up."""
     jewel = (HERE / "cases" / "jewel.map").read_text()
-    dropped_lines = ("tunable straw_calc_version", "tunable allowed_bucket_algs", "\tid -4 class", "\t# weight", "\tmin_size", "\tmax_size")
+    dropped_lines = (
+        "tunable straw_calc_version",
+        "tunable allowed_bucket_algs",
+        "\tid -4 class",
+        "\t# weight",
+        "\tmin_size",
+        "\tmax_size",
+    )
     kept = [it for it in jewel.split("\n") if not it.startswith(dropped_lines)]
     kept = [it if it.startswith("#") else it.split("#")[0].rstrip() for it in kept]
     canonical = "\n".join(kept).replace(" class ssd", "").replace("weight 1.000", "weight 1.00000")
@@ -264,23 +296,41 @@ def legacy_bucket(*items, name="h", number=-1, alg="list"):
 def texts_as_they_are_read():
     """Values that a text leaves out, places, and what is dropped, as the canonical text shows
     them."""
-    head = "tunable choose_local_tries 0 tunable choose_local_fallback_tries 0 type 0 osd type 1 host device 0 a device 1 b device 2 c "
+    head = (
+        "tunable choose_local_tries 0 tunable choose_local_fallback_tries 0 type 0 osd type 1 host device 0 a device 1"
+        " b device 2 c "
+    )
     of = {it: f"{it} weight 1.00000" for it in "abc"}
     emits = "rule q {\n\tid 0\n\ttype erasure\n" + "\tstep emit\n" * 32 + "}\n"
     texts = [
         ("", legacy_text()),  # the other tunables have their legacy values
         ("host h { id -1 alg list item a item b pos 1 item c }", legacy_text(legacy_bucket(of["a"], of["b"], of["c"]))),
         ("host h { id -1 alg list item a pos 2 item b item c }", legacy_text(legacy_bucket(of["b"], of["c"], of["a"]))),
-        ("host h { id -1 alg list item a item b pos 0 }", legacy_text(legacy_bucket(of["b"], of["a"]))),  # also where the place is named later
-        ("host e { id -2 alg uniform } host h { id -1 alg list item e item a }", legacy_text(legacy_bucket(name="e", number=-2, alg="uniform") + legacy_bucket("e weight 0.00000", of["a"]))),
+        (
+            "host h { id -1 alg list item a item b pos 0 }",
+            legacy_text(legacy_bucket(of["b"], of["a"])),
+        ),  # also where the place is named later
+        (
+            "host e { id -2 alg uniform } host h { id -1 alg list item e item a }",
+            legacy_text(legacy_bucket(name="e", number=-2, alg="uniform") + legacy_bucket("e weight 0.00000", of["a"])),
+        ),
         ("host h { id 5 class ssd id -1 id -9999999999 class hdd alg list }", legacy_text(legacy_bucket())),
-        ("rule q { id 0 type erasure " + "step emit " * 32 + "step set_choose_local_tries 0 }", legacy_text(rules=emits)),
+        (
+            "rule q { id 0 type erasure " + "step emit " * 32 + "step set_choose_local_tries 0 }",
+            legacy_text(rules=emits),
+        ),
     ]
     rows = list(START)
     for number, (text, canonical) in enumerate(texts, 1):
-        rows += [(import_of(head + text, f"m{number}"), imported(number, number)), (b"GET /t/a/maps/%d" % number, version_of(canonical, number))]
+        rows += [
+            (import_of(head + text, f"m{number}"), imported(number, number)),
+            (b"GET /t/a/maps/%d" % number, version_of(canonical, number)),
+        ]
     return rows + [
-        (import_of(head.replace("choose_local_tries 0", "straw_calc_version 0"), "m"), refused("M13", 1)),  # one of the local tunables isn't named
+        (
+            import_of(head.replace("choose_local_tries 0", "straw_calc_version 0"), "m"),
+            refused("M13", 1),
+        ),  # one of the local tunables isn't named
         (import_of(head.replace("choose_local_fallback_tries 0", "straw_calc_version 0"), "m"), refused("M13", 1)),
         (import_of(head + "rule q { id 0 type erasure " + "step emit " * 33 + "}", "m"), refused("M1", 1)),
     ]
@@ -301,7 +351,16 @@ def version_limit():
 
 
 def cases():
-    for make in (receipts, repeats, tenants_apart, refusals, rule_tests, canonical_texts, texts_as_they_are_read, version_limit):
+    for make in (
+        receipts,
+        repeats,
+        tenants_apart,
+        refusals,
+        rule_tests,
+        canonical_texts,
+        texts_as_they_are_read,
+        version_limit,
+    ):
         yield make.__name__, make()
     for name, pairs in straw2_cases.cases():
         yield f"straw2_{name}", pairs

@@ -3,7 +3,45 @@ of requests give it. The maps are small enough to be answered by hand; names' ha
 those of crush.py."""
 from model import crush
 from model.maps import canonical_tiny, duo, hosts, one_host, three, tiny, with_devices, with_line, with_rule
-from model.messages import BAD, EXISTS, IN_USE, LIMIT, METHOD, NO_DEVICE, NO_GROUP, NO_PATH, NO_POOL, NO_RULE, NO_TENANT, NO_VERSION, POOL, REUSED, SEED, START, accepted, created, devices_of, dropped, group_of, import_of, imported, lies, made, object_of, of_b, pool_of, post, refused, removal_of, removed, state, summary, test_of, tested, version_of
+from model.messages import (
+    BAD,
+    EXISTS,
+    IN_USE,
+    LIMIT,
+    METHOD,
+    NO_DEVICE,
+    NO_GROUP,
+    NO_PATH,
+    NO_POOL,
+    NO_RULE,
+    NO_TENANT,
+    NO_VERSION,
+    POOL,
+    REUSED,
+    SEED,
+    START,
+    accepted,
+    created,
+    devices_of,
+    dropped,
+    group_of,
+    import_of,
+    imported,
+    lies,
+    made,
+    object_of,
+    of_b,
+    pool_of,
+    post,
+    refused,
+    removal_of,
+    removed,
+    state,
+    summary,
+    test_of,
+    tested,
+    version_of,
+)
 
 
 # ---- where groups lie
@@ -16,8 +54,14 @@ def first_pools():
     return START + [
         (import_of(tiny()), imported(1, 1)),
         (pool_of("p1", **twelve), created(2)),
-        (object_of(""), b'200 {"epoch":2,"group":5,"hash":3175731469,"primary":0,"raw":[0],"seed":6,"up":[0],"version":1}'),
-        (object_of("a"), b'200 {"epoch":2,"group":8,"hash":703514648,"primary":0,"raw":[0],"seed":9,"up":[0],"version":1}'),
+        (
+            object_of(""),
+            b'200 {"epoch":2,"group":5,"hash":3175731469,"primary":0,"raw":[0],"seed":6,"up":[0],"version":1}',
+        ),
+        (
+            object_of("a"),
+            b'200 {"epoch":2,"group":8,"hash":703514648,"primary":0,"raw":[0],"seed":9,"up":[0],"version":1}',
+        ),
         (import_of(with_rule(1, tiny()), "m2"), IN_USE),
         (pool_of("p2", **twelve), EXISTS),
         (group_of(12), NO_GROUP),
@@ -35,13 +79,33 @@ def seeds_and_names():
     """Groups by the hashes of names, and seeds by groups, with fewer seeds than groups and at the
     greatest numbers."""
     rows, epoch, greatest = START + [(import_of(tiny()), imported(1, 1))], 1, 2147483647
-    for pool, pg_num, pgp_num, groups in ((1, 12, 12, range(12)), (2, 12, 5, range(12)), (3, 1, 1, [0]), (5, 65536, 65535, [0, 32767, 65534, 65535]), (greatest, 65536, 65536, [0, 65535])):
+    for pool, pg_num, pgp_num, groups in (
+        (1, 12, 12, range(12)),
+        (2, 12, 5, range(12)),
+        (3, 1, 1, [0]),
+        (5, 65536, 65535, [0, 32767, 65534, 65535]),
+        (greatest, 65536, 65536, [0, 65535]),
+    ):
         for hashed in (True, False):
             number, epoch = f"{pool} {hashed}", epoch + 1
-            rows.append((pool_of(number, id=pool, pg_num=pg_num, pgp_num=pgp_num, hashpspool=hashed), created(epoch, pool)))
-            seed = lambda group: crush.hash2(crush.stable_mod(group, pgp_num), pool) if hashed else crush.stable_mod(group, pgp_num) + pool
-            rows += [(group_of(it, pool), lies(epoch, it, seed(it), [0])) for it in groups] + [(group_of(pg_num, pool), NO_GROUP)]
-            for name in ("", "a", "rbd_data.1.0", "\u00e9\u20ac\U0001f600\0", *("n" * length for length in (3, 4, 5, 7, 8, 9, 11, 12, 13, 23, 24, 25, 1024))):
+            rows.append(
+                (pool_of(number, id=pool, pg_num=pg_num, pgp_num=pgp_num, hashpspool=hashed), created(epoch, pool))
+            )
+            seed = lambda group: (
+                crush.hash2(crush.stable_mod(group, pgp_num), pool)
+                if hashed
+                else crush.stable_mod(group, pgp_num) + pool
+            )
+            rows += [(group_of(it, pool), lies(epoch, it, seed(it), [0])) for it in groups] + [
+                (group_of(pg_num, pool), NO_GROUP)
+            ]
+            for name in (
+                "",
+                "a",
+                "rbd_data.1.0",
+                "\u00e9\u20ac\U0001f600\0",
+                *("n" * length for length in (3, 4, 5, 7, 8, 9, 11, 12, 13, 23, 24, 25, 1024)),
+            ):
                 hash = crush.name_hash(name.encode())
                 group = crush.stable_mod(hash, pg_num)
                 rows.append((object_of(name, pool), lies(epoch, group, seed(group), [0], hash=hash)))
@@ -104,8 +168,16 @@ def no_device_in_raw():
     indep = hosts().replace("chooseleaf firstn 2", "choose indep 2")
     leaves = hosts().replace("chooseleaf firstn 2", "chooseleaf indep 2")
     seed = crush.hash2(0, 2)
-    rows = START + [(import_of(firstn), imported(1, 1)), (pool_of("p1", size=2), created(2)), (pool_of("p2", size=2, id=2, name="e", kind="erasure"), created(3, 2))]
-    for epoch, text, raw, up, in_place in ((3, firstn, [-2], [], [None]), (4, indep, [-2, None], [], [None, None]), (5, leaves, [0, None], [0], [0, None])):
+    rows = START + [
+        (import_of(firstn), imported(1, 1)),
+        (pool_of("p1", size=2), created(2)),
+        (pool_of("p2", size=2, id=2, name="e", kind="erasure"), created(3, 2)),
+    ]
+    for epoch, text, raw, up, in_place in (
+        (3, firstn, [-2], [], [None]),
+        (4, indep, [-2, None], [], [None, None]),
+        (5, leaves, [0, None], [0], [0, None]),
+    ):
         if epoch > 3:
             rows.append((import_of(text, f"m{epoch}"), imported(epoch, epoch - 2)))
         rows.append((group_of(0), lies(epoch, 0, SEED, up, raw, epoch - 2)))
@@ -248,7 +320,9 @@ def own_checks():
 
 def rules_in_use():
     """A new version has the rule of each pool; else it is refused and nothing is changed."""
-    other, both = with_rule(1, tiny(7)), tiny(7) + tiny().split("}\n", 1)[1].replace("rule all", "rule other").replace(" id 0", " id 1")
+    other, both = with_rule(1, tiny(7)), tiny(7) + tiny().split("}\n", 1)[1].replace("rule all", "rule other").replace(
+        " id 0", " id 1"
+    )
     straw2 = with_line(other, 13, " alg straw2")
     return START + [
         (import_of(tiny()), imported(1, 1)),
@@ -326,24 +400,30 @@ def dropped_tenants():
     out, down = lies(2, 0, SEED, [0]), devices_of("d1", state(0, up=False))
     first = [(import_of(tiny()), imported(1, 1)), (pool_of("p1"), created(2)), (group_of(0), out)]
     seven = [(import_of(tiny(7)), imported(1, 1)), (pool_of("p1"), created(2)), (group_of(0), lies(2, 0, SEED, [7]))]
-    return START + first + [(b"DELETE /t/a", dropped(b"a")), (b"PUT /t/b", made(b"b"))] + [(of_b(line), reply) for line, reply in first] + [
-        (group_of(0), NO_TENANT),
-        (b"PUT /t/a", made(b"a")),
-        (group_of(0), NO_POOL),
-        *seven,
-        (of_b(group_of(0)), out),
-        (of_b(down), accepted(1, 3)),
-        (group_of(0), lies(2, 0, SEED, [7])),
-        (of_b(group_of(0)), lies(3, 0, SEED, [], [0])),
-        (b"DELETE /t/b", dropped(b"b")),
-        (of_b(down), NO_TENANT),
-        (b"PUT /t/b", made(b"b")),
-        (b"GET /t/b", summary(0, 0, tenant="b")),
-        (of_b(down), NO_VERSION),
-        *((of_b(line), reply) for line, reply in first),  # the device is up again
-        (b"GET /t/b", summary(2, 1, 0, 1, "b")),
-        (b"GET /t/a", summary(2, 1, 0, 1)),
-    ]
+    return (
+        START
+        + first
+        + [(b"DELETE /t/a", dropped(b"a")), (b"PUT /t/b", made(b"b"))]
+        + [(of_b(line), reply) for line, reply in first]
+        + [
+            (group_of(0), NO_TENANT),
+            (b"PUT /t/a", made(b"a")),
+            (group_of(0), NO_POOL),
+            *seven,
+            (of_b(group_of(0)), out),
+            (of_b(down), accepted(1, 3)),
+            (group_of(0), lies(2, 0, SEED, [7])),
+            (of_b(group_of(0)), lies(3, 0, SEED, [], [0])),
+            (b"DELETE /t/b", dropped(b"b")),
+            (of_b(down), NO_TENANT),
+            (b"PUT /t/b", made(b"b")),
+            (b"GET /t/b", summary(0, 0, tenant="b")),
+            (of_b(down), NO_VERSION),
+            *((of_b(line), reply) for line, reply in first),  # the device is up again
+            (b"GET /t/b", summary(2, 1, 0, 1, "b")),
+            (b"GET /t/a", summary(2, 1, 0, 1)),
+        ]
+    )
 
 
 def pool_limit():
@@ -370,25 +450,30 @@ def receipt_limit():
     """100,000 receipts; the limit comes before a request's own checks, a repeat before it. What
     changes nothing is answered as ever."""
     down = [devices_of(f"d{it}", state(0, up=it % 2 == 0)) for it in range(2, 100_001)]
-    return START + [(import_of(tiny()), imported(1, 1))] + [(line, accepted(1, epoch)) for epoch, line in enumerate(down, 2)] + [
-        (devices_of("more", state(0, up=True)), LIMIT),
-        (devices_of("more", state(1, up=True)), LIMIT),
-        (pool_of("more"), LIMIT),
-        (removal_of("more"), LIMIT),
-        (post("pools/exceptions", {"exceptions": [], "id": 1, "request": "more"}), LIMIT),  # before no pool
-        (import_of("", "more"), LIMIT),
-        (devices_of("more"), BAD),
-        (down[0], accepted(1, 2)),
-        (down[-1], accepted(1, 100_000)),
-        (devices_of("d2", state(0, up=False)), REUSED),
-        (test_of(), tested([0], [0], 100_000, 1)),
-        (b"GET /t/a", summary(100_000, 1, 1)),
-        (b"PUT /t/b", made(b"b")),
-        (of_b(import_of(tiny())), imported(1, 1)),
-        (b"DELETE /t/a", dropped(b"a")),
-        (b"PUT /t/a", made(b"a")),
-        (import_of(tiny()), imported(1, 1)),
-    ]
+    return (
+        START
+        + [(import_of(tiny()), imported(1, 1))]
+        + [(line, accepted(1, epoch)) for epoch, line in enumerate(down, 2)]
+        + [
+            (devices_of("more", state(0, up=True)), LIMIT),
+            (devices_of("more", state(1, up=True)), LIMIT),
+            (pool_of("more"), LIMIT),
+            (removal_of("more"), LIMIT),
+            (post("pools/exceptions", {"exceptions": [], "id": 1, "request": "more"}), LIMIT),  # before no pool
+            (import_of("", "more"), LIMIT),
+            (devices_of("more"), BAD),
+            (down[0], accepted(1, 2)),
+            (down[-1], accepted(1, 100_000)),
+            (devices_of("d2", state(0, up=False)), REUSED),
+            (test_of(), tested([0], [0], 100_000, 1)),
+            (b"GET /t/a", summary(100_000, 1, 1)),
+            (b"PUT /t/b", made(b"b")),
+            (of_b(import_of(tiny())), imported(1, 1)),
+            (b"DELETE /t/a", dropped(b"a")),
+            (b"PUT /t/a", made(b"a")),
+            (import_of(tiny()), imported(1, 1)),
+        ]
+    )
 
 
 # ---- forms
@@ -402,18 +487,47 @@ def forms_of_devices():
     """Bodies on both sides of each bound; what passes has a map with the greatest id."""
     entry = {"id": 65535, "up": True}
     wrong = [
-        {"id": -1}, {"id": 65536}, {"id": 4294967296}, {"id": 1.0}, {"id": "1"}, {"id": None},
-        {"reweight": -1}, {"reweight": 65537}, {"reweight": 0.5}, {"reweight": None}, {"reweight": True}, {"reweight": "1"},
-        {"up": None}, {"up": 0}, {"up": "true"}, {"more": 0},
+        {"id": -1},
+        {"id": 65536},
+        {"id": 4294967296},
+        {"id": 1.0},
+        {"id": "1"},
+        {"id": None},
+        {"reweight": -1},
+        {"reweight": 65537},
+        {"reweight": 0.5},
+        {"reweight": None},
+        {"reweight": True},
+        {"reweight": "1"},
+        {"up": None},
+        {"up": 0},
+        {"up": "true"},
+        {"more": 0},
     ]
     rows = START + [(import_of(tiny(65535)), imported(1, 1))]
     rows += [(devices_of("d", {**entry, "reweight": 1, **it}), BAD) for it in wrong]
-    rows += [(devices_of("d", it), BAD) for it in ({"id": 65535}, {"up": True}, {"reweight": 1}, {}, 1, None, [], "osd.0")]
-    rows += [(post("devices", it), BAD) for it in (
-        {"request": "d"}, {"devices": [entry]}, {"request": "d", "devices": [entry], "more": 0}, {"request": "d", "devices": entry}, {"request": "d", "devices": None},
-        {"request": "d", "devices": []}, {"request": "d", "devices": [entry, entry]}, {"request": "d", "devices": [entry, {"id": 65535, "reweight": 1}]},
-        {"request": "", "devices": [entry]}, {"request": "r" * 65, "devices": [entry]}, {"request": 1, "devices": [entry]}, {"request": None, "devices": [entry]}, [], 1,
-    )]
+    rows += [
+        (devices_of("d", it), BAD) for it in ({"id": 65535}, {"up": True}, {"reweight": 1}, {}, 1, None, [], "osd.0")
+    ]
+    rows += [
+        (post("devices", it), BAD)
+        for it in (
+            {"request": "d"},
+            {"devices": [entry]},
+            {"request": "d", "devices": [entry], "more": 0},
+            {"request": "d", "devices": entry},
+            {"request": "d", "devices": None},
+            {"request": "d", "devices": []},
+            {"request": "d", "devices": [entry, entry]},
+            {"request": "d", "devices": [entry, {"id": 65535, "reweight": 1}]},
+            {"request": "", "devices": [entry]},
+            {"request": "r" * 65, "devices": [entry]},
+            {"request": 1, "devices": [entry]},
+            {"request": None, "devices": [entry]},
+            [],
+            1,
+        )
+    ]
     return rows + [
         (b"POST /t/a/devices", BAD),
         (b"POST /t/a/devices {", BAD),
@@ -432,7 +546,10 @@ def forms_of_devices():
         (devices_of("3", {"id": 65535, "reweight": 65536}), accepted(1, 4)),
         (test_of(), tested([65535], [65535], 4, 1)),
         (devices_of("4", {"reweight": 1, "up": False, "id": 65535}), accepted(1, 5)),
-        (b'POST /t/a/devices {"request":"5","devices":[{"id":1.5,"up":true,"\\u0069d":65535}]}', accepted(1, 6)),  # of a key twice the last counts
+        (
+            b'POST /t/a/devices {"request":"5","devices":[{"id":1.5,"up":true,"\\u0069d":65535}]}',
+            accepted(1, 6),
+        ),  # of a key twice the last counts
         (b"GET /t/a", summary(6, 1, 1)),
     ]
 
@@ -440,20 +557,74 @@ def forms_of_devices():
 def forms_of_pools():
     """Bodies on both sides of each bound."""
     wrong = [
-        {"id": 0}, {"id": -1}, {"id": 2147483648}, {"id": 4294967297}, {"id": 1.0}, {"id": "1"},
-        {"name": ""}, {"name": "n" * 65}, {"name": "a b"}, {"name": "\u00e9"}, {"name": 1}, {"name": None},
-        {"kind": "Replicated"}, {"kind": ""}, {"kind": "erasure "}, {"kind": 1}, {"kind": True},
-        {"size": 0}, {"size": 33}, {"size": -1}, {"size": 1.0}, {"size": 4294967297},
-        {"rule": -1}, {"rule": 256}, {"rule": 4294967296}, {"rule": "all"},
-        {"pg_num": 0, "pgp_num": 0}, {"pg_num": 65537}, {"pg_num": 8.0}, {"pg_num": None}, {"pg_num": 4294967304},
-        {"pgp_num": 0}, {"pgp_num": 9}, {"pgp_num": -8}, {"pg_num": 1, "pgp_num": 2}, {"pg_num": 65536, "pgp_num": 65537}, {"pgp_num": 4294967304},
-        {"hashpspool": 1}, {"hashpspool": "true"}, {"hashpspool": None}, {"more": 0},
-        {"request": ""}, {"request": "r" * 65}, {"request": 1},
+        {"id": 0},
+        {"id": -1},
+        {"id": 2147483648},
+        {"id": 4294967297},
+        {"id": 1.0},
+        {"id": "1"},
+        {"name": ""},
+        {"name": "n" * 65},
+        {"name": "a b"},
+        {"name": "\u00e9"},
+        {"name": 1},
+        {"name": None},
+        {"kind": "Replicated"},
+        {"kind": ""},
+        {"kind": "erasure "},
+        {"kind": 1},
+        {"kind": True},
+        {"size": 0},
+        {"size": 33},
+        {"size": -1},
+        {"size": 1.0},
+        {"size": 4294967297},
+        {"rule": -1},
+        {"rule": 256},
+        {"rule": 4294967296},
+        {"rule": "all"},
+        {"pg_num": 0, "pgp_num": 0},
+        {"pg_num": 65537},
+        {"pg_num": 8.0},
+        {"pg_num": None},
+        {"pg_num": 4294967304},
+        {"pgp_num": 0},
+        {"pgp_num": 9},
+        {"pgp_num": -8},
+        {"pg_num": 1, "pgp_num": 2},
+        {"pg_num": 65536, "pgp_num": 65537},
+        {"pgp_num": 4294967304},
+        {"hashpspool": 1},
+        {"hashpspool": "true"},
+        {"hashpspool": None},
+        {"more": 0},
+        {"request": ""},
+        {"request": "r" * 65},
+        {"request": 1},
     ]
-    rows = START + [(import_of(with_rule(255, tiny()) + tiny().split("}\n", 1)[1].replace("rule all", "rule first")), imported(1, 1))]
+    rows = START + [
+        (
+            import_of(with_rule(255, tiny()) + tiny().split("}\n", 1)[1].replace("rule all", "rule first")),
+            imported(1, 1),
+        )
+    ]
     rows += [(pool_of(**{"request": "p", **it}), BAD) for it in wrong]
     rows += [(post("pools", without({"request": "p", **POOL}, key)), BAD) for key in ("request", *POOL)]
-    rows += [(post("pools/remove", it), BAD) for it in ({"request": "e", "id": 0}, {"request": "e", "id": 2147483648}, {"request": "e", "id": -1}, {"request": "e", "id": "1"}, {"request": "e"}, {"id": 1}, {"request": "e", "id": 1, "more": 0}, {"request": "", "id": 1}, {"request": "r" * 65, "id": 1}, [])]
+    rows += [
+        (post("pools/remove", it), BAD)
+        for it in (
+            {"request": "e", "id": 0},
+            {"request": "e", "id": 2147483648},
+            {"request": "e", "id": -1},
+            {"request": "e", "id": "1"},
+            {"request": "e"},
+            {"id": 1},
+            {"request": "e", "id": 1, "more": 0},
+            {"request": "", "id": 1},
+            {"request": "r" * 65, "id": 1},
+            [],
+        )
+    ]
     rows += [
         (b"POST /t/a/pools []", BAD),
         (b"POST /t/b/pools {}", BAD),  # before no tenant
@@ -469,14 +640,22 @@ def forms_of_pools():
         (b"GET /t/a", summary(1, 1)),
     ]
     right = [
-        ({"id": 2147483647, "name": "n" * 64, "request": "r" * 64}, 0), ({"kind": "erasure", "name": "A-z_0.9"}, 0), ({"size": 32}, 0), ({"rule": 255}, 0),
-        ({"pg_num": 65536, "pgp_num": 65536}, 65535), ({"pg_num": 65536, "pgp_num": 1}, 65535), ({"pg_num": 1, "pgp_num": 1}, 0),
+        ({"id": 2147483647, "name": "n" * 64, "request": "r" * 64}, 0),
+        ({"kind": "erasure", "name": "A-z_0.9"}, 0),
+        ({"size": 32}, 0),
+        ({"rule": 255}, 0),
+        ({"pg_num": 65536, "pgp_num": 65536}, 65535),
+        ({"pg_num": 65536, "pgp_num": 1}, 65535),
+        ({"pg_num": 1, "pgp_num": 1}, 0),
     ]
     for epoch, (it, group) in enumerate(right, 2):
         id = it.get("id", epoch)
         members = {"id": id, "name": f"n{epoch}", **it}
         seed = crush.hash2(crush.stable_mod(group, it.get("pgp_num", 8)), id)
-        rows += [(pool_of(**{"request": f"p{epoch}", **members}), created(epoch, id)), (group_of(group, id), lies(epoch, group, seed, [0]))]
+        rows += [
+            (pool_of(**{"request": f"p{epoch}", **members}), created(epoch, id)),
+            (group_of(group, id), lies(epoch, group, seed, [0])),
+        ]
     return rows + [(b"GET /t/a", summary(8, 1, 0, 7)), (removal_of("r" * 63, 2147483647), removed(9, 2147483647))]
 
 
@@ -484,10 +663,38 @@ def forms_of_groups():
     """The paths and bodies that ask where a group or an object lies."""
     locate = b"POST /t/a/pools/1/locate "
     rows = START + [(import_of(tiny()), imported(1, 1)), (pool_of("p1"), created(2))]
-    rows += [(b"GET /t/a/pools/%s/groups/%s" % it, BAD) for it in ((b"x", b"0"), (b"1", b"x"), (b"-1", b"0"), (b"1", b"-1"), (b"00000000001", b"0"), (b"1", b"00000000000"), (b"1.0", b"0"), (b"remove", b"1"), (b"1", b"%30"))]
-    rows += [(locate + it, BAD) for it in (b"", b"{", b"{}", b"[]", b'{"name":1}', b'{"name":null}', b'{"name":["a"]}', b'{"name":"a","more":0}', b'{"names":"a"}', b'{"name":"\\ud800"}', b'{"name":"\xff"}')]
+    rows += [
+        (b"GET /t/a/pools/%s/groups/%s" % it, BAD)
+        for it in (
+            (b"x", b"0"),
+            (b"1", b"x"),
+            (b"-1", b"0"),
+            (b"1", b"-1"),
+            (b"00000000001", b"0"),
+            (b"1", b"00000000000"),
+            (b"1.0", b"0"),
+            (b"remove", b"1"),
+            (b"1", b"%30"),
+        )
+    ]
+    rows += [
+        (locate + it, BAD)
+        for it in (
+            b"",
+            b"{",
+            b"{}",
+            b"[]",
+            b'{"name":1}',
+            b'{"name":null}',
+            b'{"name":["a"]}',
+            b'{"name":"a","more":0}',
+            b'{"names":"a"}',
+            b'{"name":"\\ud800"}',
+            b'{"name":"\xff"}',
+        )
+    ]
     rows += [(object_of(it), BAD) for it in ("n" * 1025, "\u00e9" * 513)]
-    rows += [(b"POST /t/a/pools/%s/locate {\"name\":\"a\"}" % it, BAD) for it in (b"x", b"remove", b"-1", b"00000000001")]
+    rows += [(b'POST /t/a/pools/%s/locate {"name":"a"}' % it, BAD) for it in (b"x", b"remove", b"-1", b"00000000001")]
     for name in ("n" * 1024, "\u00e9" * 512):
         hash = crush.name_hash(name.encode())
         group = crush.stable_mod(hash, 8)
@@ -512,7 +719,23 @@ def forms_of_groups():
 
 def cases():
     for make in (
-        first_pools, seeds_and_names, reweights, devices_down, no_device_in_raw, newest_version, states_of_devices, states_are_kept, many_devices,
-        own_checks, rules_in_use, repeats, dropped_tenants, pool_limit, forms_of_devices, forms_of_pools, forms_of_groups, receipt_limit,
+        first_pools,
+        seeds_and_names,
+        reweights,
+        devices_down,
+        no_device_in_raw,
+        newest_version,
+        states_of_devices,
+        states_are_kept,
+        many_devices,
+        own_checks,
+        rules_in_use,
+        repeats,
+        dropped_tenants,
+        pool_limit,
+        forms_of_devices,
+        forms_of_pools,
+        forms_of_groups,
+        receipt_limit,
     ):
         yield make.__name__, make()

@@ -6,7 +6,48 @@ import pathlib
 from model import crush
 from model.maps import duo, one_host, taking, three, tiny, with_devices, with_line, with_rule
 from model.placed import Placed
-from model.messages import BAD, METHOD, NO_DEVICE, NO_PATH, NO_POOL, NO_RULE, NO_TENANT, NO_VERSION, REUSED, SECOND, SEED, START, TOO_LARGE, TWO, accepted, created, csv_of, devices_of, dropped, group_of, impact_of, import_of, imported, lies, lines_of, made, moved, moves_of, of_b, pool_of, post, removal_of, removed, state, summary, test_of, tested, touched, usage_of, used
+from model.messages import (
+    BAD,
+    METHOD,
+    NO_DEVICE,
+    NO_PATH,
+    NO_POOL,
+    NO_RULE,
+    NO_TENANT,
+    NO_VERSION,
+    REUSED,
+    SECOND,
+    SEED,
+    START,
+    TOO_LARGE,
+    TWO,
+    accepted,
+    created,
+    csv_of,
+    devices_of,
+    dropped,
+    group_of,
+    impact_of,
+    import_of,
+    imported,
+    lies,
+    lines_of,
+    made,
+    moved,
+    moves_of,
+    of_b,
+    pool_of,
+    post,
+    removal_of,
+    removed,
+    state,
+    summary,
+    test_of,
+    tested,
+    touched,
+    usage_of,
+    used,
+)
 
 THREE_HOSTS = (pathlib.Path(__file__).resolve().parent.parent.parent / "examples" / "three_hosts.txt").read_text()
 
@@ -21,7 +62,13 @@ def usage():
         (import_of(tiny()), imported(1, 1)),
         (usage_of(), NO_POOL),
         (pool_of("p1"), created(2)),
-        (usage_of(), b'200 {"epoch":2,"pool":1,"rows":[{"device":0,"entries":8,"groups":8,"permille":1000,"primaries":8}],"version":1}'),
+        (
+            usage_of(),
+            (
+                b'200 {"epoch":2,"pool":1,"rows":[{"device":0,"entries":8,"groups":8,"permille":1000,"primaries":8}],'
+                b'"version":1}'
+            ),
+        ),
         (usage_of(2), NO_POOL),
         (usage_of(4294967297), NO_POOL),  # 2^32 + 1: numbers are compared as a whole
         (devices_of("d1", state(0, up=False)), accepted(1, 3)),
@@ -75,7 +122,9 @@ def usage_by_entries():
 def weightless(text, *items):
     """The text with these items, of weight 1.0 or 2.0, of weight 0."""
     for it in items:
-        text = text.replace(f"item {it} weight 1.0", f"item {it} weight 0").replace(f"item {it} weight 2.0", f"item {it} weight 0")
+        text = text.replace(f"item {it} weight 1.0", f"item {it} weight 0").replace(
+            f"item {it} weight 2.0", f"item {it} weight 0"
+        )
     return text
 
 
@@ -83,13 +132,20 @@ def usage_beside_weight_0():
     """Where a host weighs nothing, a device of each host, both, all devices, or all hosts."""
     first, second, all_hosts = ("osd.0", "osd.2", "osd.4"), ("osd.1", "osd.3", "osd.5"), ("host0", "host1", "host2")
     rows = START + [(import_of(tiny()), imported(1, 1)), (pool_of("p1", size=3, pg_num=32, pgp_num=32), created(2))]
-    texts = [weightless(THREE_HOSTS.replace("alg list", f"alg {kind}"), *items) for items in (("host1",), second, ("host1", *first), first + second, all_hosts) for kind in ("list", "tree")]
+    texts = [
+        weightless(THREE_HOSTS.replace("alg list", f"alg {kind}"), *items)
+        for items in (("host1",), second, ("host1", *first), first + second, all_hosts)
+        for kind in ("list", "tree")
+    ]
     for version, text in enumerate(texts, 2):
         placed = Placed(text, pool=1, size=3, pg_num=32)
         rows += [
             (import_of(text, f"m{version}"), imported(version + 1, version)),
             (usage_of(), used(version + 1, *((it, *row) for it, row in placed.entries().items()), version=version)),
-            *((test_of(placed.seeds[it], 3), tested(placed.raw[it], placed.traces[it], version + 1, version)) for it in range(32)),
+            *(
+                (test_of(placed.seeds[it], 3), tested(placed.raw[it], placed.traces[it], version + 1, version))
+                for it in range(32)
+            ),
         ]
     return rows
 
@@ -101,7 +157,13 @@ def moves():
         (import_of(tiny()), imported(1, 1)),
         (pool_of("p1", **TWO), created(2)),
         (import_of(tiny(7), "m2"), imported(3, 2)),
-        (moves_of(1, 2), b'200 {"epoch":3,"from":1,"gained":2,"moved":2,"pool":1,"rows":[{"gained":1,"group":0,"new":[7],"old":[0]},{"gained":1,"group":1,"new":[7],"old":[0]}],"to":2}'),
+        (
+            moves_of(1, 2),
+            (
+                b'200 {"epoch":3,"from":1,"gained":2,"moved":2,"pool":1,"rows":['
+                b'{"gained":1,"group":0,"new":[7],"old":[0]},{"gained":1,"group":1,"new":[7],"old":[0]}],"to":2}'
+            ),
+        ),
         (moves_of(2, 1), moved(3, 2, 1, (0, 1, [7], [0]), (1, 1, [7], [0]))),
         (moves_of(1, 1), moved(3, 1, 1)),
         (moves_of(2, 2), moved(3, 2, 2)),
@@ -123,7 +185,13 @@ def moves_of_lists():
     lists = [[0, 1, 2], [2, 1, 0], [3, 3, 1], [0, 1], [0, 1, 1]]
     rows = START + [(import_of(taking(*it), f"m{epoch}"), imported(epoch, epoch)) for epoch, it in enumerate(lists, 1)]
     rows += [(pool_of("p1", size=3, pg_num=1, pgp_num=1), created(6))]
-    gained = [[0, 0, 1, 0, 0], [0, 0, 1, 0, 0], [2, 2, 0, 1, 1], [1, 1, 1, 0, 0], [1, 1, 1, 0, 0]]  # from the one to the other
+    gained = [
+        [0, 0, 1, 0, 0],
+        [0, 0, 1, 0, 0],
+        [2, 2, 0, 1, 1],
+        [1, 1, 1, 0, 0],
+        [1, 1, 1, 0, 0],
+    ]  # from the one to the other
     for old in range(5):
         for new in range(5):
             row = [] if old == new else [(0, gained[old][new], lists[old], lists[new])]
@@ -172,7 +240,13 @@ def impact():
         (impact_of(0), b'200 {"device":0,"epoch":2,"groups":[0,1],"pool":1,"version":1}'),
         (impact_of(4), NO_DEVICE),
         (devices_of("d1", state(0, up=False)), accepted(1, 3)),
-        (usage_of(), b'200 {"epoch":3,"pool":1,"rows":[{"device":0,"entries":0,"groups":0,"permille":0,"primaries":0}],"version":1}'),
+        (
+            usage_of(),
+            (
+                b'200 {"epoch":3,"pool":1,"rows":[{"device":0,"entries":0,"groups":0,"permille":0,"primaries":0}],'
+                b'"version":1}'
+            ),
+        ),
         (impact_of(0), b'200 {"device":0,"epoch":3,"groups":[0,1],"pool":1,"version":1}'),
         (devices_of("d2", state(0, reweight=0)), accepted(1, 4)),
         (impact_of(0), b'200 {"device":0,"epoch":4,"groups":[],"pool":1,"version":1}'),
@@ -207,10 +281,15 @@ def checks_of_impact():
 
 def impact_of_what_is_passed_over():
     """A leaf that is out leaves no trace; the leaf that is then taken does."""
-    pool = next(it for it in range(1, 99) if crush.uniform_pick(-1, [(0, 65536), (1, 65536)], it, 0) == 1)  # the seed of its group
+    pool = next(
+        it for it in range(1, 99) if crush.uniform_pick(-1, [(0, 65536), (1, 65536)], it, 0) == 1
+    )  # the seed of its group
     return START + [
         (import_of(one_host()), imported(1, 1)),
-        (pool_of("p1", id=pool, size=2, rule=1, kind="erasure", pg_num=1, pgp_num=1, hashpspool=False), created(2, pool)),
+        (
+            pool_of("p1", id=pool, size=2, rule=1, kind="erasure", pg_num=1, pgp_num=1, hashpspool=False),
+            created(2, pool),
+        ),
         (group_of(0, pool), lies(2, 0, pool, [1, None])),
         (impact_of(0, pool), touched(2, 0, [], pool=pool)),
         (impact_of(1, pool), touched(2, 1, [0], pool=pool)),
@@ -291,29 +370,91 @@ def states_as_csv():
 def forms_of_csv():
     """Texts on both sides of each bound: those of the form say the same, the others are refused."""
     right = [
-        lines_of("65535,32768,0"), lines_of("65535,32768,0", end="\r\n"), lines_of("65535,32768,0", end="\r"), lines_of("65535,32768,0")[:-1],
-        "\ufeff" + lines_of("65535,32768,0"), "\n\r\n" + lines_of("", "65535,32768,0", ""), '"id","reweight","up"\n"65535","32768","0"\n',
-        lines_of("0000065535,0000032768,0"), 'id,reweight,up\n65535,"32768",0', 'id,reweight,up\n65535,32768,"0',
+        lines_of("65535,32768,0"),
+        lines_of("65535,32768,0", end="\r\n"),
+        lines_of("65535,32768,0", end="\r"),
+        lines_of("65535,32768,0")[:-1],
+        "\ufeff" + lines_of("65535,32768,0"),
+        "\n\r\n" + lines_of("", "65535,32768,0", ""),
+        '"id","reweight","up"\n"65535","32768","0"\n',
+        lines_of("0000065535,0000032768,0"),
+        'id,reweight,up\n65535,"32768",0',
+        'id,reweight,up\n65535,32768,"0',
     ]
     wrong = [
-        "", "\n", "\ufeff", lines_of(), lines_of()[:-1], "65535,32768,0\n", "ID,reweight,up\n65535,32768,0\n", "id, reweight,up\n65535,32768,0\n", "id,up,reweight\n65535,0,1\n",
-        "id,reweight\n65535,32768\n", "id,reweight,up,\n65535,32768,0\n", "# a remark\n" + lines_of("65535,32768,0"),
-        *(lines_of(it) for it in (
-            "65535,65537,0", "65536,32768,0", "65535,4294967296,0", "4295032831,32768,0", "9999999999,32768,0", "00000065535,32768,0", "65535,00000032768,0",
-            "-1,32768,0", "65535,-1,0", "+1,32768,0", "65535,1.0,0", "65535,0x1,0", " 65535,32768,0", "65535, 32768,0", "65535,32768, 0", "65535,32768,0 ",
-            "65535,32768,2", "65535,32768,00", "65535,32768,true", "65535,32768,", "65535,,0", ",32768,0", "65535,32768", "65535", "65535,32768,0,", "65535;32768;0", "osd.65535,32768,0",
-            '65535,32768,"0', '""', "65535,\u0663,0",
-        )),
-        lines_of("65535,1,0", "65535,1,0"), lines_of("65535,1,0", "0065535,2,1"), lines_of("65535,1,0", "x"), lines_of("65535,1,0", lines_of()[:-1]),
+        "",
+        "\n",
+        "\ufeff",
+        lines_of(),
+        lines_of()[:-1],
+        "65535,32768,0\n",
+        "ID,reweight,up\n65535,32768,0\n",
+        "id, reweight,up\n65535,32768,0\n",
+        "id,up,reweight\n65535,0,1\n",
+        "id,reweight\n65535,32768\n",
+        "id,reweight,up,\n65535,32768,0\n",
+        "# a remark\n" + lines_of("65535,32768,0"),
+        *(
+            lines_of(it)
+            for it in (
+                "65535,65537,0",
+                "65536,32768,0",
+                "65535,4294967296,0",
+                "4295032831,32768,0",
+                "9999999999,32768,0",
+                "00000065535,32768,0",
+                "65535,00000032768,0",
+                "-1,32768,0",
+                "65535,-1,0",
+                "+1,32768,0",
+                "65535,1.0,0",
+                "65535,0x1,0",
+                " 65535,32768,0",
+                "65535, 32768,0",
+                "65535,32768, 0",
+                "65535,32768,0 ",
+                "65535,32768,2",
+                "65535,32768,00",
+                "65535,32768,true",
+                "65535,32768,",
+                "65535,,0",
+                ",32768,0",
+                "65535,32768",
+                "65535",
+                "65535,32768,0,",
+                "65535;32768;0",
+                "osd.65535,32768,0",
+                '65535,32768,"0',
+                '""',
+                "65535,\u0663,0",
+            )
+        ),
+        lines_of("65535,1,0", "65535,1,0"),
+        lines_of("65535,1,0", "0065535,2,1"),
+        lines_of("65535,1,0", "x"),
+        lines_of("65535,1,0", lines_of()[:-1]),
     ]
     rows = START + [(import_of(tiny(65535)), imported(1, 1))] + [(csv_of("c", it), BAD) for it in wrong]
     rows += [(csv_of(f"c{epoch}", it), accepted(1, epoch)) for epoch, it in enumerate(right, 2)]
     epoch = len(right) + 1
     text = lines_of("65535,32768,0")
-    rows += [(post("devices/csv", it), BAD) for it in (
-        {"request": "c"}, {"csv": text}, {"request": "c", "csv": text, "more": 0}, {"request": "c", "csv": None}, {"request": "c", "csv": [text]}, {"request": "c", "csv": 1},
-        {"request": "", "csv": text}, {"request": "r" * 65, "csv": text}, {"request": 1, "csv": text}, {"request": "c", "text": text}, [], 1,
-    )]
+    rows += [
+        (post("devices/csv", it), BAD)
+        for it in (
+            {"request": "c"},
+            {"csv": text},
+            {"request": "c", "csv": text, "more": 0},
+            {"request": "c", "csv": None},
+            {"request": "c", "csv": [text]},
+            {"request": "c", "csv": 1},
+            {"request": "", "csv": text},
+            {"request": "r" * 65, "csv": text},
+            {"request": 1, "csv": text},
+            {"request": "c", "text": text},
+            [],
+            1,
+        )
+    ]
     return rows + [
         (b"POST /t/a/devices/csv", BAD),
         (b"POST /t/a/devices/csv {", BAD),
@@ -330,7 +471,10 @@ def forms_of_csv():
         (csv_of("0", lines_of("65535,0,1")), accepted(1, epoch + 2)),
         (test_of(), tested([], [], epoch + 2, 1)),
         (csv_of("1", lines_of("0,0,1")), NO_DEVICE),
-        (b'POST /t/a/devices/csv {"csv":1,"request":"2","c\\u0073v":"id,reweight,up\\u000a65535,1,1"}', accepted(1, epoch + 3)),  # of a key twice the last counts
+        (
+            b'POST /t/a/devices/csv {"csv":1,"request":"2","c\\u0073v":"id,reweight,up\\u000a65535,1,1"}',
+            accepted(1, epoch + 3),
+        ),  # of a key twice the last counts
         (b"GET /t/a", summary(epoch + 3, 1, 1)),
     ]
 
@@ -362,11 +506,47 @@ def forms_of_reports():
     rows = START + [(import_of(tiny()), imported(1, 1)), (pool_of("p1", **TWO), created(2))]
     for it in reports:
         path = b"/t/a/pools/1/" + it
-        rows += [(b"GET /t/a/pools/%s/%s" % (pool, it), BAD) for pool in (b"x", b"-1", b"+1", b"1.0", b"00000000001", b"%31", b"remove")]
-        rows += [(b"GET " + path + b" {}", BAD), (b"POST " + path + b" {}", METHOD), (b"PUT " + path, METHOD), (b"DELETE " + path, METHOD), (b"GET " + path + b"/", NO_PATH), (b"GET " + path + b"/1", NO_PATH)]
+        rows += [
+            (b"GET /t/a/pools/%s/%s" % (pool, it), BAD)
+            for pool in (b"x", b"-1", b"+1", b"1.0", b"00000000001", b"%31", b"remove")
+        ]
+        rows += [
+            (b"GET " + path + b" {}", BAD),
+            (b"POST " + path + b" {}", METHOD),
+            (b"PUT " + path, METHOD),
+            (b"DELETE " + path, METHOD),
+            (b"GET " + path + b"/", NO_PATH),
+            (b"GET " + path + b"/1", NO_PATH),
+        ]
         rows += [(b"GET /t/b/pools/1/" + it, NO_TENANT), (b"GET /t/b/pools/x/" + it, BAD)]  # the form comes first
-    rows += [(b"GET /t/a/pools/1/" + it, BAD) for it in (b"moves/x/1", b"moves/1/x", b"moves/-1/1", b"moves/1/00000000001", b"moves/1.0/1", b"impact/x", b"impact/-1", b"impact/00000000000", b"impact/osd.0")]
-    rows += [(b"GET /t/a/pools/1/" + it, NO_PATH) for it in (b"moves", b"moves/", b"moves/1", b"moves//1", b"impact", b"impact/", b"Usage", b"usages", b"moves/1/1/1")]
+    rows += [
+        (b"GET /t/a/pools/1/" + it, BAD)
+        for it in (
+            b"moves/x/1",
+            b"moves/1/x",
+            b"moves/-1/1",
+            b"moves/1/00000000001",
+            b"moves/1.0/1",
+            b"impact/x",
+            b"impact/-1",
+            b"impact/00000000000",
+            b"impact/osd.0",
+        )
+    ]
+    rows += [
+        (b"GET /t/a/pools/1/" + it, NO_PATH)
+        for it in (
+            b"moves",
+            b"moves/",
+            b"moves/1",
+            b"moves//1",
+            b"impact",
+            b"impact/",
+            b"Usage",
+            b"usages",
+            b"moves/1/1/1",
+        )
+    ]
     rows += [(b"GET /t/a/pools/9/moves/x/1", BAD), (b"GET /t/a/pools/9/impact/x", BAD)]  # before no pool
     return rows + [
         (usage_of(), used(2, (0, 2, 2, 2, 1000))),
@@ -380,29 +560,52 @@ def forms_of_reports():
 def reports_of_tenants():
     """A report is of the tenant's own pool, versions and states, and of none that was dropped."""
     mine = [(import_of(tiny()), imported(1, 1)), (pool_of("p1", **TWO), created(2))]
-    theirs = [(import_of(tiny(7)), imported(1, 1)), (pool_of("p1"), created(2)), (csv_of("c1", lines_of("7,0,1")), accepted(1, 3))]
-    return START + mine + [(b"PUT /t/b", made(b"b"))] + [(of_b(line), reply) for line, reply in theirs] + [
-        (usage_of(), used(2, (0, 2, 2, 2, 1000))),
-        (of_b(usage_of()), used(3, (7, 0, 0, 0, 0))),
-        (impact_of(0), touched(2, 0, [0, 1])),
-        (of_b(impact_of(0)), NO_DEVICE),
-        (of_b(impact_of(7)), touched(3, 7, [])),
-        (import_of(tiny(7), "m2"), imported(3, 2)),
-        (impact_of(7), touched(3, 7, [0, 1], version=2)),
-        (of_b(moves_of(1, 2)), NO_VERSION),
-        (b"DELETE /t/a", dropped(b"a")),
-        (usage_of(), NO_TENANT),
-        (moves_of(1, 1), NO_TENANT),
-        (impact_of(0), NO_TENANT),
-        (b"PUT /t/a", made(b"a")),
-        (usage_of(), NO_POOL),
-        (of_b(usage_of()), used(3, (7, 0, 0, 0, 0))),
+    theirs = [
+        (import_of(tiny(7)), imported(1, 1)),
+        (pool_of("p1"), created(2)),
+        (csv_of("c1", lines_of("7,0,1")), accepted(1, 3)),
     ]
+    return (
+        START
+        + mine
+        + [(b"PUT /t/b", made(b"b"))]
+        + [(of_b(line), reply) for line, reply in theirs]
+        + [
+            (usage_of(), used(2, (0, 2, 2, 2, 1000))),
+            (of_b(usage_of()), used(3, (7, 0, 0, 0, 0))),
+            (impact_of(0), touched(2, 0, [0, 1])),
+            (of_b(impact_of(0)), NO_DEVICE),
+            (of_b(impact_of(7)), touched(3, 7, [])),
+            (import_of(tiny(7), "m2"), imported(3, 2)),
+            (impact_of(7), touched(3, 7, [0, 1], version=2)),
+            (of_b(moves_of(1, 2)), NO_VERSION),
+            (b"DELETE /t/a", dropped(b"a")),
+            (usage_of(), NO_TENANT),
+            (moves_of(1, 1), NO_TENANT),
+            (impact_of(0), NO_TENANT),
+            (b"PUT /t/a", made(b"a")),
+            (usage_of(), NO_POOL),
+            (of_b(usage_of()), used(3, (7, 0, 0, 0, 0))),
+        ]
+    )
 
 
 def cases():
     for make in (
-        usage, usage_by_entries, usage_beside_weight_0, moves, moves_of_lists, checks_of_moves, impact, checks_of_impact, impact_of_what_is_passed_over, groups_of_two_devices,
-        states_as_csv, forms_of_csv, many_lines, forms_of_reports, reports_of_tenants,
+        usage,
+        usage_by_entries,
+        usage_beside_weight_0,
+        moves,
+        moves_of_lists,
+        checks_of_moves,
+        impact,
+        checks_of_impact,
+        impact_of_what_is_passed_over,
+        groups_of_two_devices,
+        states_as_csv,
+        forms_of_csv,
+        many_lines,
+        forms_of_reports,
+        reports_of_tenants,
     ):
         yield make.__name__, make()

@@ -4,7 +4,26 @@ import random
 
 from model import choosing, map_text
 from model.maps import MARK, canonical_tiny, marked, straw2_of, straw2_under, tiny, with_line
-from model.messages import BAD, NO_VERSION, REUSED, START, body, created, dropped, import_of, imported, item, made, of_b, pool_of, refused, summary, test_of, tested, version_of
+from model.messages import (
+    BAD,
+    NO_VERSION,
+    REUSED,
+    START,
+    body,
+    created,
+    dropped,
+    import_of,
+    imported,
+    item,
+    made,
+    of_b,
+    pool_of,
+    refused,
+    summary,
+    test_of,
+    tested,
+    version_of,
+)
 
 ONE, JEWEL = 65536, (50, 1, 1, 1)
 GREATEST = 2**31 - 1  # of a weight in a straw2 bucket: "32767.99999"
@@ -13,8 +32,10 @@ STRAW2 = with_line(tiny(), 13, " alg straw2")
 # first lines that ask for straw2, and some that don't
 ASKING = [MARK, MARK + "\r"]
 NOT_ASKING = [
-    "", MARK + " ", MARK + "\t", " " + MARK, "\t" + MARK, MARK + "\r\r", MARK + "\r ", "\r" + MARK, MARK + "#", MARK + " # more", MARK + "\0", "#" + MARK, "#crushcalc: straw2", "#  crushcalc: straw2", "#\tcrushcalc: straw2",
-    "# crushcalc:straw2", "# crushcalc: straw", "# crushcalc: straw22", "# crushcalc: straw 2", "# crushcalc straw2", "# Crushcalc: straw2", "# crushcalc: Straw2", "# CRUSHCALC: STRAW2", "# crushcalc: list", "# begin crush map", "#",
+    "", MARK + " ", MARK + "\t", " " + MARK, "\t" + MARK, MARK + "\r\r", MARK + "\r ", "\r" + MARK, MARK + "#",
+    MARK + " # more", MARK + "\0", "#" + MARK, "#crushcalc: straw2", "#  crushcalc: straw2", "#\tcrushcalc: straw2",
+    "# crushcalc:straw2", "# crushcalc: straw", "# crushcalc: straw22", "# crushcalc: straw 2", "# crushcalc straw2",
+    "# Crushcalc: straw2", "# crushcalc: Straw2", "# CRUSHCALC: STRAW2", "# crushcalc: list", "# begin crush map", "#",
 ]  # fmt: skip
 
 
@@ -37,7 +58,8 @@ def texts():
     yield "the mark behind a remark", f"# begin crush map\n{marked(STRAW2)}", "refused line 15 code X2"
     yield "the mark at the end", f"{STRAW2}{MARK}\n", no_mark
     yield "the mark at the very end", f"{STRAW2}{MARK}", no_mark
-    yield "the mark as the last words of the first line", f"tunable choose_local_tries 0 {marked(STRAW2[STRAW2.index(chr(10)) + 1 :])}", no_mark
+    behind = STRAW2[STRAW2.index("\n") + 1 :]
+    yield "the mark as the last words of the first line", f"tunable choose_local_tries 0 {marked(behind)}", no_mark
     yield "the mark twice", marked(marked(STRAW2)), accepted
     yield "the mark alone", MARK, "refused line 1 code M4"
     yield "the mark and a line end", MARK + "\n", "refused line 1 code M4"
@@ -52,13 +74,23 @@ def texts():
     yield "the greatest weight", straw2_of([(0, "32767.99999")]), accepted
     yield "a greater weight", straw2_of([(0, "32768.0")]), "refused line 12 code M7"
     yield "a much greater weight", straw2_of([(0, "65535.99999")]), "refused line 12 code M7"
-    yield "a greater weight in a list", marked(with_line(with_line(tiny(), 13, " alg list"), 15, " item osd.0 weight 65535.99999")), accepted
+    yield "a greater weight in a list", marked(
+        with_line(with_line(tiny(), 13, " alg list"), 15, " item osd.0 weight 65535.99999")
+    ), accepted
     yield "a greater weight in a second place", straw2_of([(0, "0"), (1, "32768.0")]), "refused line 13 code M7"
-    yield "the greatest sum", straw2_of([(0, "32767.99999"), (1, "32767.99999"), (2, "0.00003")]), "ok devices 3 buckets 1 rules 1"
-    yield "a greater sum", straw2_of([(0, "32767.99999"), (1, "32767.99999"), (2, "0.00004")]), "refused line 14 code M7"
+    yield "the greatest sum", straw2_of(
+        [(0, "32767.99999"), (1, "32767.99999"), (2, "0.00003")]
+    ), "ok devices 3 buckets 1 rules 1"
+    yield "a greater sum", straw2_of(
+        [(0, "32767.99999"), (1, "32767.99999"), (2, "0.00004")]
+    ), "refused line 14 code M7"
     # a bucket that weighs too much as the item of a straw2 bucket
     under = "host h {{ id -2 alg {} item osd.0 weight {} }}\nroot default {{"
-    for low, weight, answer in (("list", "32767.99999", "ok devices 1 buckets 2 rules 1"), ("list", "32768", "refused line 13 code M7"), ("straw2", "32768", "refused line 12 code M7")):
+    for low, weight, answer in (
+        ("list", "32767.99999", "ok devices 1 buckets 2 rules 1"),
+        ("list", "32768", "refused line 13 code M7"),
+        ("straw2", "32768", "refused line 12 code M7"),
+    ):
         it = with_line(STRAW2, 15, " item h").replace("root default {", under.format(low, weight))
         yield f"a {low} bucket of {weight} in it", marked(it), answer
 
@@ -104,7 +136,9 @@ def texts_that_ask():
 def canonical_texts():
     """A map with straw2 buckets has the mark in its text, and no other has."""
     canonical = marked(canonical_tiny().replace("alg uniform", "alg straw2"))
-    two = canonical_tiny().replace("root default {", "host h {\n\tid -2\n\talg straw2\n\thash 0\n\titem osd.0 weight 1.00000\n}\nroot default {")
+    two = canonical_tiny().replace(
+        "root default {", "host h {\n\tid -2\n\talg straw2\n\thash 0\n\titem osd.0 weight 1.00000\n}\nroot default {"
+    )
     both = marked(two.replace("alg uniform", "alg list"))
     return START + [
         (import_of(marked(STRAW2)), imported(1, 1)),
@@ -175,15 +209,22 @@ def worked_rows():
     ties, others = (straw2_under([(0, it), (1, it)]) for it in ("20000.0", "32767.99999"))
     rows = of_tests(
         [even, with_line(even, 15, " id -77"), raised, nothing, little, last, ties, others],
-        [first, first, second, firsts((0, 0, 0)), firsts((2, 2, 2)), [((1, 1), ([64590], [64590]))], [((1, 40602), ([0], [0]))], firsts((1, 0, 0, 1))],
+        [first, first, second, firsts((0, 0, 0)), firsts((2, 2, 2)), [((1, 1), ([64590], [64590]))],
+         [((1, 40602), ([0], [0]))], firsts((1, 0, 0, 1))],
     )  # fmt: skip
-    return rows + [(import_of(straw2_under([(0, "32768.0"), (1, "32768.0")]), "m9"), refused("M7", 25)), (b"GET /t/a", summary(8, 8))]
+    return rows + [
+        (import_of(straw2_under([(0, "32768.0"), (1, "32768.0")]), "m9"), refused("M7", 25)),
+        (b"GET /t/a", summary(8, 8)),
+    ]
 
 
 def answers_of(items, asked):
     """What the rule of straw2_of answers to pairs of size and input."""
     picks = choosing.Picks([(-1, 10, "straw2", tuple(items))])
-    return [((size, x), choosing.run_rule(picks, JEWEL, ("take -1", "choose firstn 0 0", "emit"), (), x, size)) for size, x in asked]
+    return [
+        ((size, x), choosing.run_rule(picks, JEWEL, ("take -1", "choose firstn 0 0", "emit"), (), x, size))
+        for size, x in asked
+    ]
 
 
 def of_weights(maps):
@@ -207,7 +248,12 @@ def mixed_weights():
     for size in (2, 3, 5, 8, 12, 17, 33, 100):
         ids = drawn.sample(range(65536), size)
         for of in ((0, ONE), (ONE, 2 * ONE, 4 * ONE), (0, 1, 3, ONE // 3), (ONE * 400, ONE * 600), range(1, 16 * ONE)):
-            maps.append(([(it, drawn.choice(of)) for it in ids], [(1, x) for x in range(10)] + [(4, 2**32 - 1 - x) for x in range(2)]))
+            maps.append(
+                (
+                    [(it, drawn.choice(of)) for it in ids],
+                    [(1, x) for x in range(10)] + [(4, 2**32 - 1 - x) for x in range(2)],
+                )
+            )
     return of_weights(maps)
 
 
@@ -218,29 +264,33 @@ def equal_lacks():
     """Inputs at which the least lack is that of two items: the first of them is picked. The items
     weigh little, so that their draws give equal logarithms, or much, so that quotients are equal
     too."""
-    return of_weights([
-        ([(it, ONE) for it in range(12)], [(1, x) for x in (6816, 9502, 11272, 11311, 11504)]),
-        (TWELVE, [(1, x) for x in (9502, 11272, 11504)]),
-        ([(0, ONE), (1, ONE)], [(1, 10841)]),
-        ([(it, 900 * ONE) for it in range(4)], [(1, x) for x in (6816, 28544, 28583, 29075)]),
-        ([(7, GREATEST), (3, GREATEST)], [(1, x) for x in (1274, 25461)]),
-    ])
+    return of_weights(
+        [
+            ([(it, ONE) for it in range(12)], [(1, x) for x in (6816, 9502, 11272, 11311, 11504)]),
+            (TWELVE, [(1, x) for x in (9502, 11272, 11504)]),
+            ([(0, ONE), (1, ONE)], [(1, 10841)]),
+            ([(it, 900 * ONE) for it in range(4)], [(1, x) for x in (6816, 28544, 28583, 29075)]),
+            ([(7, GREATEST), (3, GREATEST)], [(1, x) for x in (1274, 25461)]),
+        ]
+    )
 
 
 def great_weights():
     """Weights by which different logarithms give equal lacks: the first is picked at each input
     that isn't small, though another's logarithm is greater. And weights at both sides of 2^30."""
     few = [(1, x) for x in range(20)]
-    return of_weights([
-        ([(0, 20_000 * ONE), (1, 20_000 * ONE)], [(1, x) for x in (112120, 194861, 245824, 249100, 255026)]),
-        ([(0, GREATEST), (1, 20_000 * ONE)], few + [(1, x) for x in (24050, 65095, 71452, 100710, 186536)]),
-        ([(5, 30_000 * ONE), (4, 10_000 * ONE)], few + [(1, x) for x in (217198, 243222, 380301, 526588, 618108)]),
-        ([(0, 2**30), (1, 2**30 - 1), (2, 2**30 + 1)], few),
-        ([(0, 2**30 + 1), (1, ONE)], few),
-        ([(0, GREATEST), (1, GREATEST), (2, 1)], few),
-        # the second's lack needs no rounding: rounded up it would be the less
-        ([(0, 2126115091), (1, 2126115091)], [(1, 112120)]),
-    ])
+    return of_weights(
+        [
+            ([(0, 20_000 * ONE), (1, 20_000 * ONE)], [(1, x) for x in (112120, 194861, 245824, 249100, 255026)]),
+            ([(0, GREATEST), (1, 20_000 * ONE)], few + [(1, x) for x in (24050, 65095, 71452, 100710, 186536)]),
+            ([(5, 30_000 * ONE), (4, 10_000 * ONE)], few + [(1, x) for x in (217198, 243222, 380301, 526588, 618108)]),
+            ([(0, 2**30), (1, 2**30 - 1), (2, 2**30 + 1)], few),
+            ([(0, 2**30 + 1), (1, ONE)], few),
+            ([(0, GREATEST), (1, GREATEST), (2, 1)], few),
+            # the second's lack needs no rounding: rounded up it would be the less
+            ([(0, 2126115091), (1, 2126115091)], [(1, 112120)]),
+        ]
+    )
 
 
 def tables_as_they_are():
@@ -261,5 +311,17 @@ def placements():
 
 
 def cases():
-    for make in (texts_that_ask, canonical_texts, texts_apart, picks_by_request, worked_rows, sizes, mixed_weights, equal_lacks, great_weights, tables_as_they_are, placements):
+    for make in (
+        texts_that_ask,
+        canonical_texts,
+        texts_apart,
+        picks_by_request,
+        worked_rows,
+        sizes,
+        mixed_weights,
+        equal_lacks,
+        great_weights,
+        tables_as_they_are,
+        placements,
+    ):
         yield make.__name__, make()

@@ -8,7 +8,8 @@ import threading
 import time
 
 from program.hostile_cases import BODIES, BODY_LIMIT, HEADS, exceptions
-from model.messages import EXISTS, TOO_LARGE, dropped, made, short, there
+from model.maps import with_devices
+from model.messages import EXISTS, TOO_LARGE, dropped, import_of, made, short, there
 from server.served import SECONDS, Server, asked, free_port, message, replies_on, reset
 
 HERE = pathlib.Path(__file__).resolve().parent
@@ -29,7 +30,9 @@ def first(*whys):
 
 def goes_on(server):
     """Why the next client isn't served as ever, or None."""
-    return unlike(asked(server, [b"PUT /t/next", b"GET /t/next", b"DELETE /t/next"])[:2], [made(b"next"), there(b"next")])
+    return unlike(
+        asked(server, [b"PUT /t/next", b"GET /t/next", b"DELETE /t/next"])[:2], [made(b"next"), there(b"next")]
+    )
 
 
 def two_messages(program, db):
@@ -38,8 +41,16 @@ def two_messages(program, db):
     with Server(program, db) as server, server.connect() as connection:
         connection.sendall(message(b"PUT /t/a") + message(b"GET /t/a"))
         connection.settimeout(WAIT - 1)
-        want = [b"HTTP/1.1 201 Created\r\nContent-Length: 24\r\nContent-Type: application/json\r\n\r\n" b'{"epoch":0,"tenant":"a"}',
-                b"HTTP/1.1 200 OK\r\nContent-Length: 59\r\nContent-Type: application/json\r\n\r\n" b'{"devices":0,"epoch":0,"pools":0,"tenant":"a","versions":0}']
+        want = [
+            (
+                b"HTTP/1.1 201 Created\r\nContent-Length: 24\r\nContent-Type: application/json\r\n\r\n"
+                b'{"epoch":0,"tenant":"a"}'
+            ),
+            (
+                b"HTTP/1.1 200 OK\r\nContent-Length: 59\r\nContent-Type: application/json\r\n\r\n"
+                b'{"devices":0,"epoch":0,"pools":0,"tenant":"a","versions":0}'
+            ),
+        ]
         got = b""
         while len(got) < len(b"".join(want)):
             got += connection.recv(4096)
@@ -50,7 +61,9 @@ def two_messages(program, db):
 def byte_by_byte(program, db):
     """Each byte in a segment of its own."""
     with Server(program, db) as server, server.connect() as connection:
-        for byte in message(b"PUT /t/a") + message(b'POST /t/a/pick {"bucket":{"id":-1,"items":[{"item":4,"weight":65536}],"kind":"list"},"r":0,"x":0}'):
+        for byte in message(b"PUT /t/a") + message(
+            b'POST /t/a/pick {"bucket":{"id":-1,"items":[{"item":4,"weight":65536}],"kind":"list"},"r":0,"x":0}'
+        ):
             connection.send(bytes([byte]))
         connection.shutdown(socket.SHUT_WR)
         return unlike(replies_on(connection), ([made(b"a"), b'200 {"item":4}'], False))
@@ -58,10 +71,16 @@ def byte_by_byte(program, db):
 
 def examples(program, db):
     """Stored scripts over one connection each, to a server that is begun anew for each."""
-    cases = [path for it in ("exceptions", "maps", "pools", "reports") for path in (HERE.parent / "program" / "cases").glob(f"{it}*.in")]
+    cases = [
+        path
+        for it in ("exceptions", "maps", "pools", "reports")
+        for path in (HERE.parent / "program" / "cases").glob(f"{it}*.in")
+    ]
     for path in sorted([*(HERE.parent.parent / "examples").glob("*.script"), *cases]):
         with Server(program, db.with_name(f"{path.stem}.db")) as server:
-            if why := unlike(asked(server, path.read_bytes().splitlines()), path.with_suffix(".out").read_bytes().splitlines()):
+            if why := unlike(
+                asked(server, path.read_bytes().splitlines()), path.with_suffix(".out").read_bytes().splitlines()
+            ):
                 return f"{path.name}: {why}"
     return None
 
@@ -91,7 +110,14 @@ def bodies(program, db):
             return f"{wrong}: the reply isn't as it has to be" if wrong else unlike(found, wanted)
         lines = [(b"DELETE /t/a", dropped(b"a")), *exceptions()]
         found = asked(server, [it for it, _ in lines])
-        return next((f"{short(line)}: {short(it)}, not {short(reply)}" for (line, reply), it in zip(lines, found) if it != reply), None)
+        return next(
+            (
+                f"{short(line)}: {short(it)}, not {short(reply)}"
+                for (line, reply), it in zip(lines, found)
+                if it != reply
+            ),
+            None,
+        )
 
 
 def third_messages(program, db):
@@ -116,7 +142,11 @@ def last_messages(program, db):
     more = message(b"DELETE /t/a")
     with Server(program, db) as server:
         asked(server, [b"PUT /t/a"])
-        for last in (message(b"GET /t/a", b"connection: CLOSE"), message(b"GET /t/a", version=b"1.0"), message(b"GET /t/a") * MESSAGES):
+        for last in (
+            message(b"GET /t/a", b"connection: CLOSE"),
+            message(b"GET /t/a", version=b"1.0"),
+            message(b"GET /t/a") * MESSAGES,
+        ):
             with server.connect() as connection:
                 sender = threading.Thread(target=lambda: connection.sendall(last + more))
                 sender.start()
@@ -133,12 +163,16 @@ def silent_clients(program, db):
     with Server(program, db) as one, Server(program, db.with_name("u.db")) as other:
         peak = asked(other, [b"PUT /t/a"]) and other.peak()
         with one.connect() as silent, other.connect() as silent_in_a_body:
-            silent_in_a_body.sendall(b"POST /t/a/maps HTTP/1.1\r\nContent-Length: %d\r\n\r\n{\"r" % BODY_LIMIT)
+            silent_in_a_body.sendall(b'POST /t/a/maps HTTP/1.1\r\nContent-Length: %d\r\n\r\n{"r' % BODY_LIMIT)
             start = time.monotonic()
             why, spent = goes_on(one) or goes_on(other), time.monotonic() - start
             why = why or unlike(silent.recv(1), b"") or unlike(silent_in_a_body.recv(1), b"")
         more = other.peak() - peak
-        return why or (None if WAIT - 1 < spent < WAIT + 5 else f"the next waited {spent:.1f} seconds") or (None if more < LITTLE else f"it took {more:,} bytes")
+        return (
+            why
+            or (None if WAIT - 1 < spent < WAIT + 5 else f"the next waited {spent:.1f} seconds")
+            or (None if more < LITTLE else f"it took {more:,} bytes")
+        )
 
 
 def silent_clients_in_a_row(program, db):
@@ -151,6 +185,27 @@ def silent_clients_in_a_row(program, db):
             why = why or unlike(connection.recv(1), b"")
             connection.close()
         return why
+
+
+def a_client_that_never_reads(program, db):
+    """Replies of many megabytes that nobody reads: a write that moves nothing for five seconds ends
+    the connection, and the next client is served."""
+    with Server(program, db) as server:
+        asked(server, [b"PUT /t/a", import_of(with_devices(1_000))])
+        with server.connect(room=4_096) as connection:
+            connection.sendall(message(b"GET /t/a/maps/1") * 1_000)
+            return goes_on(server)
+
+
+def a_client_that_stays(program, db):
+    """A client that has its last reply and doesn't end its side is waited for a tenth of a second,
+    and not for five."""
+    with Server(program, db) as server, server.connect() as connection:
+        connection.sendall(message(b"PUT /t/a", b"Connection: close"))
+        why = unlike(replies_on(connection), ([made(b"a")], True))
+        start = time.monotonic()
+        why, spent = why or goes_on(server), time.monotonic() - start
+        return why or (None if spent < WAIT - 1 else f"the next waited {spent:.1f} seconds")
 
 
 def resets(program, db):
@@ -189,7 +244,12 @@ def accepts_that_fail(program, db):
     for most in range(3, 20):
         port = free_port()
         words = [program, "serve", "--db", str(db), "--port", str(port), "--connections", "6"]
-        with subprocess.Popen(words, stdout=subprocess.PIPE, stderr=subprocess.PIPE, preexec_fn=lambda: resource.setrlimit(resource.RLIMIT_NOFILE, (most, most))) as run:
+        with subprocess.Popen(
+            words,
+            stdout=subprocess.PIPE,
+            stderr=subprocess.PIPE,
+            preexec_fn=lambda: resource.setrlimit(resource.RLIMIT_NOFILE, (most, most)),
+        ) as run:
             if not run.stdout.readline():
                 run.communicate(timeout=SECONDS)
                 continue
@@ -205,10 +265,26 @@ def accepts_that_fail(program, db):
                     run.kill()
                     return f"with {most} descriptors it doesn't end"
             took = time.monotonic() - since
-            return unlike((run.returncode, out, err), (0, b"", b"crushcalc: 6 of 6 connections not accepted\n")) or (None if took >= 0.6 else f"it took {took} seconds")
+            return unlike((run.returncode, out, err), (0, b"", b"crushcalc: 6 of 6 connections not accepted\n")) or (
+                None if took >= 0.6 else f"it took {took} seconds"
+            )
     return "it never listens"
 
 
 def cases():
-    return (accepts_that_fail, two_messages, byte_by_byte, examples, heads, bodies, third_messages, last_messages,
-        silent_clients, silent_clients_in_a_row, resets, half_closes)
+    return (
+        accepts_that_fail,
+        two_messages,
+        byte_by_byte,
+        examples,
+        heads,
+        bodies,
+        third_messages,
+        last_messages,
+        silent_clients,
+        silent_clients_in_a_row,
+        a_client_that_never_reads,
+        a_client_that_stays,
+        resets,
+        half_closes,
+    )

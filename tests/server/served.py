@@ -9,11 +9,23 @@ import subprocess
 
 SECONDS = 60
 RESET = struct.pack("ii", 1, 0)  # SO_LINGER: a close sends a reset
-HEAD = re.compile(rb"HTTP/1\.1 (\d{3}) ([A-Za-z ]+)\r\nContent-Length: (\d+)\r\nContent-Type: application/json\r\n(Connection: close\r\n)?\r\n")
+HEAD = re.compile(
+    rb"HTTP/1\.1 (\d{3}) ([A-Za-z ]+)\r\nContent-Length: (\d+)\r\nContent-Type: application/json\r\n(Connection:"
+    rb" close\r\n)?\r\n"
+)
 PHRASES = {
-    b"200": b"OK", b"201": b"Created", b"400": b"Bad Request", b"404": b"Not Found", b"405": b"Method Not Allowed", b"409": b"Conflict",
-    b"413": b"Payload Too Large", b"422": b"Unprocessable Entity", b"429": b"Too Many Requests", b"500": b"Internal Server Error",
-    b"501": b"Not Implemented", b"503": b"Service Unavailable",
+    b"200": b"OK",
+    b"201": b"Created",
+    b"400": b"Bad Request",
+    b"404": b"Not Found",
+    b"405": b"Method Not Allowed",
+    b"409": b"Conflict",
+    b"413": b"Payload Too Large",
+    b"422": b"Unprocessable Entity",
+    b"429": b"Too Many Requests",
+    b"500": b"Internal Server Error",
+    b"501": b"Not Implemented",
+    b"503": b"Service Unavailable",
 }
 
 
@@ -37,12 +49,20 @@ class Server:
 
     def __init__(self, program, db, *words, port=None, **how):
         self.port = port or free_port()
-        self.run = subprocess.Popen([program, "serve", "--db", str(db), "--port", str(self.port), *words], stdin=subprocess.DEVNULL,
-                                    stdout=subprocess.PIPE, stderr=subprocess.PIPE, **how)
+        self.run = subprocess.Popen(
+            [program, "serve", "--db", str(db), "--port", str(self.port), *words],
+            stdin=subprocess.DEVNULL,
+            stdout=subprocess.PIPE,
+            stderr=subprocess.PIPE,
+            **how,
+        )
         line = self.run.stdout.readline()
         if line != b"listening 127.0.0.1:%d\n" % self.port:
             out, err = self.run.communicate(timeout=SECONDS)
-            raise Unserved(f"the server's first line is {line + out!r}; standard error {err!r}; status {self.run.returncode}", (self.run.returncode, line + out, err))
+            raise Unserved(
+                f"the server's first line is {line + out!r}; standard error {err!r}; status {self.run.returncode}",
+                (self.run.returncode, line + out, err),
+            )
 
     def __enter__(self):
         return self
@@ -87,7 +107,13 @@ def run_to_end(program, *words, data=b""):
 
 def script_replies(program, lines):
     """What a script of these lines gets in memory."""
-    ran = subprocess.run([program, "script"], input=b"".join(it + b"\n" for it in lines), stdout=subprocess.PIPE, stderr=subprocess.PIPE, timeout=SECONDS)
+    ran = subprocess.run(
+        [program, "script"],
+        input=b"".join(it + b"\n" for it in lines),
+        stdout=subprocess.PIPE,
+        stderr=subprocess.PIPE,
+        timeout=SECONDS,
+    )
     if ran.returncode or ran.stderr:
         raise Unserved(f"the script ends with status {ran.returncode} and {ran.stderr!r}")
     return ran.stdout.splitlines()
@@ -97,7 +123,9 @@ def message(line, *headers, version=b"1.1"):
     """The message of a script's line, with more headers."""
     method, path, *body = line.split(b" ", 2)
     size = [b"Content-Length: %d" % len(it) for it in body]
-    return b"".join(it + b"\r\n" for it in (b"%s %s HTTP/%s" % (method, path, version), b"Host: localhost", *size, *headers, b"")) + b"".join(body)
+    return b"".join(
+        it + b"\r\n" for it in (b"%s %s HTTP/%s" % (method, path, version), b"Host: localhost", *size, *headers, b"")
+    ) + b"".join(body)
 
 
 def read_reply(stream):

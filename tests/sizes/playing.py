@@ -54,6 +54,7 @@ def by_server(program, db, lines):
 def over_a_connection(server, lines):
     """The replies to lines that are sent one behind the other while replies are read; of a body
     that is too long only the head is sent."""
+
     def send():
         try:
             for it in lines:

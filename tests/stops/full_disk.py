@@ -23,7 +23,7 @@ def fill(server, first):
     """Imports until one is refused: the number of the last that was accepted, and the last
     reply."""
     for place in range(first, first + 1000):
-        reply, = asked(server, [import_of(place)])
+        (reply,) = asked(server, [import_of(place)])
         if reply != messages.imported(place, place):
             break
     return place - 1, reply
@@ -65,7 +65,9 @@ def at_full_disk(program, folder):
         if reply != FULL or not 0 < count < 200:
             return f"import {count + 1} is answered {reply!r}"
         summary = messages.summary(count, count)
-        found = asked(server, [b"GET /t/a", import_of(count + 1), import_of(1), messages.test_of(), b"DELETE /t/a", b"GET /t/a"])
+        found = asked(
+            server, [b"GET /t/a", import_of(count + 1), import_of(1), messages.test_of(), b"DELETE /t/a", b"GET /t/a"]
+        )
         if found != [summary, FULL, messages.imported(1, 1), messages.tested([0], [0], count, count), FULL, summary]:
             return f"while it is full: {found}"
         ballast[0].unlink()
@@ -80,7 +82,11 @@ def at_full_disk(program, folder):
         it.unlink()
     with Server(program, db) as server:
         found = asked(server, [b"GET /t/a", import_of(more + 1)])
-    return None if found == [messages.summary(more, more), messages.imported(more + 1, more + 1)] else f"after a start: {found}"
+    return (
+        None
+        if found == [messages.summary(more, more), messages.imported(more + 1, more + 1)]
+        else f"after a start: {found}"
+    )
 
 
 def schema_1_at_full_disk(program, folder):
@@ -95,7 +101,7 @@ def schema_1_at_full_disk(program, folder):
         return f"on a full disk: {found}, and the files have {[len(it) for it in left.values()]} bytes"
     rest.unlink()
     live = played(SCHEMA_1.with_suffix(".script").read_bytes().splitlines())[1]
-    summary, = played([b"GET /t/a"], live)[0]
+    (summary,) = played([b"GET /t/a"], live)[0]
     found = run_to_end(program, "script", "--db", str(db), data=b"GET /t/a\n")
     db.unlink()
     return None if found == (0, summary + b"\n", b"") else f"with room again: {found}"
@@ -105,7 +111,9 @@ def mount(folder):
     """Mounts a small file system there."""
     if os.geteuid() != 0:
         raise Untried("a file system is mounted by root alone")
-    ran = subprocess.run(["mount", "-t", "tmpfs", "-o", f"size={SIZE}", "crushcalc", str(folder)], stderr=subprocess.PIPE)
+    ran = subprocess.run(
+        ["mount", "-t", "tmpfs", "-o", f"size={SIZE}", "crushcalc", str(folder)], stderr=subprocess.PIPE
+    )
     if ran.returncode:
         raise Untried(f"no file system can be mounted: {ran.stderr.decode(errors='replace').strip()}")
 

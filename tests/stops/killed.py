@@ -24,7 +24,9 @@ def script_of(lines):
 def script_killed(program, db, lines, seconds):
     """The whole replies that a script wrote before it was killed, so long after its start, and how
     many more of its requests may have been done."""
-    with subprocess.Popen([program, "script", "--db", str(db)], stdin=subprocess.PIPE, stdout=subprocess.PIPE, stderr=subprocess.DEVNULL) as run:
+    with subprocess.Popen(
+        [program, "script", "--db", str(db)], stdin=subprocess.PIPE, stdout=subprocess.PIPE, stderr=subprocess.DEVNULL
+    ) as run:
         try:
             out, _ = run.communicate(script_of(lines), timeout=seconds)
         except subprocess.TimeoutExpired:
@@ -77,7 +79,9 @@ def found_in(db, folder, states, is_new):
     for place, live in enumerate(states):
         if differ(tables_of(live), found) is None:
             return place
-    raise Unexplained(f"the file holds what no first part of the requests leaves: {differ(tables_of(states[0]), found)}")
+    raise Unexplained(
+        f"the file holds what no first part of the requests leaves: {differ(tables_of(states[0]), found)}"
+    )
 
 
 def repeated(program, db, folder, live):

@@ -39,12 +39,23 @@ def recorded(program, db, lines):
     with tempfile.TemporaryFile() as record:
         env = {**os.environ, "LD_PRELOAD": library, "RECORD_FILE": str(real(db)), "RECORD_FD": str(record.fileno())}
         before = files_at(db)
-        ran = subprocess.run([program, "script", "--db", str(real(db))], input=script_of(lines), stdout=subprocess.PIPE, stderr=subprocess.PIPE, timeout=SECONDS, cwd=top, env=env, pass_fds=(record.fileno(),))
+        ran = subprocess.run(
+            [program, "script", "--db", str(real(db))],
+            input=script_of(lines),
+            stdout=subprocess.PIPE,
+            stderr=subprocess.PIPE,
+            timeout=SECONDS,
+            cwd=top,
+            env=env,
+            pass_fds=(record.fileno(),),
+        )
         if (ran.returncode, ran.stderr) != (0, b""):
             raise Unexplained(f"a session that isn't stopped ends with status {ran.returncode} and {ran.stderr!r}")
         record.seek(0)
         calls = calls_of(record)
-    if not any(it.what == "log" for it in calls) or any(it.name == "unlink" or it.name == "write" and it.what != OUT for it in calls):
+    if not any(it.what == "log" for it in calls) or any(
+        it.name == "unlink" or it.name == "write" and it.what != OUT for it in calls
+    ):
         raise Unfit("the calls on the file aren't those that are recorded: is the program linked statically?")
     session = Recorded(before, calls, ran.stdout.splitlines())
     files, _ = collections.deque(cuts(session), 1).pop()
@@ -64,7 +75,16 @@ def written_of(drawn, at, count):
     middle = drawn.randint(0, count)
     sectors = sorted({0, count, *(it - at for it in range(at - at % SECTOR + SECTOR, at + count, SECTOR))})
     pieces = list(zip(sectors, sectors[1:])) if count > 64 else [(it, it + 1) for it in range(count)]
-    return drawn.choice(([], [(0, count)], [(0, middle)], [(middle, count)], [it for it in pieces if drawn.random() < 0.5], [it for it in pieces if drawn.random() < 0.95]))
+    return drawn.choice(
+        (
+            [],
+            [(0, count)],
+            [(0, middle)],
+            [(middle, count)],
+            [it for it in pieces if drawn.random() < 0.5],
+            [it for it in pieces if drawn.random() < 0.95],
+        )
+    )
 
 
 def torn(drawn, content, at, data):
@@ -79,7 +99,11 @@ def torn(drawn, content, at, data):
 
 def cut_to(drawn, content, length):
     """Bytes whose length was being changed to this."""
-    return grown(drawn, content, length) if length > len(content) else content[: drawn.choice((length, len(content), drawn.randint(length, len(content))))]
+    return (
+        grown(drawn, content, length)
+        if length > len(content)
+        else content[: drawn.choice((length, len(content), drawn.randint(length, len(content))))]
+    )
 
 
 class File:
@@ -114,7 +138,11 @@ class File:
                 return None
             content = b""
         for call in self.since:
-            content = torn(drawn, content, call.place, call.bytes) if call.name == "pwrite" else cut_to(drawn, content, call.place)
+            content = (
+                torn(drawn, content, call.place, call.bytes)
+                if call.name == "pwrite"
+                else cut_to(drawn, content, call.place)
+            )
         return content
 
 
@@ -172,7 +200,9 @@ def found_after(program, session, live, lines, at, seed):
         try:
             return found_by_opening(program, db, folder, may_leave(live, lines, replies, 1), False)
         except (Unexplained, Unsound) as error:
-            raise Unexplained(f"the power is cut after {at} of {len(session.calls)} calls, seed {seed}: {error}") from error
+            raise Unexplained(
+                f"the power is cut after {at} of {len(session.calls)} calls, seed {seed}: {error}"
+            ) from error
 
 
 def each_cut(program, name, files, live, lines, images, drawn, most=None):
@@ -183,7 +213,13 @@ def each_cut(program, name, files, live, lines, images, drawn, most=None):
     places = sorted(drawn.sample(places, min(len(places), most or len(places)))) * images
     seeded = [(at, drawn.getrandbits(64)) for at in places]
     found = side_by_side(lambda it: found_after(program, session, live, lines, *it), seeded)
-    print(f"{name}, the power cut at {len(set(places))} moments of its {len(session.calls)} calls: {len(found)} images; in {sum(found)} the request without a reply is done.", flush=True)
+    print(
+        (
+            f"{name}, the power cut at {len(set(places))} moments of its {len(session.calls)} calls:"
+            f" {len(found)} images; in {sum(found)} the request without a reply is done."
+        ),
+        flush=True,
+    )
 
 
 class PowerCutter:

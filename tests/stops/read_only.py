@@ -66,10 +66,18 @@ def after_repair(program, at):
     """Once it is repaired the file has what was acknowledged, and of the change that met the fault
     all or nothing; sent again it is done once."""
     last = ACKNOWLEDGED + 1
-    status, out, err = run_to_end(program, "script", "--db", str(at / "t.db"), data=b"GET /t/a\n" + import_of(last) + b"\n" + import_of(1) + b"\nGET /t/a\n")
+    status, out, err = run_to_end(
+        program,
+        "script",
+        "--db",
+        str(at / "t.db"),
+        data=b"GET /t/a\n" + import_of(last) + b"\n" + import_of(1) + b"\nGET /t/a\n",
+    )
     found = out.splitlines()
     wanted = [messages.imported(last, last), messages.imported(1, 1), messages.summary(last, last)]
-    if (status, err, found[1:]) != (0, b"", wanted) or found[0] not in (messages.summary(it, it) for it in (last - 1, last)):
+    if (status, err, found[1:]) != (0, b"", wanted) or found[0] not in (
+        messages.summary(it, it) for it in (last - 1, last)
+    ):
         return f"after a repair: status {status}, {err!r}, {found}"
     return None
 

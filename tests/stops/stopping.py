@@ -44,8 +44,18 @@ def stopping(db, stop, trace):
     """The folder, the environment and the files of a run with this stop."""
     top, library = compiled("stop")
     file = os.path.normpath(f"{db}{FILES[stop.what]}")
-    words = {"LD_PRELOAD": library, "STOP_FILE": file, "STOP_AT": str(stop.calls), "STOP_BYTES": str(stop.bytes), "STOP_FD": str(trace.fileno())}
-    return {"cwd": top, "env": {**os.environ, **words, **({"STOP_KILLS": "1"} if stop.kills else {})}, "pass_fds": (trace.fileno(),)}
+    words = {
+        "LD_PRELOAD": library,
+        "STOP_FILE": file,
+        "STOP_AT": str(stop.calls),
+        "STOP_BYTES": str(stop.bytes),
+        "STOP_FD": str(trace.fileno()),
+    }
+    return {
+        "cwd": top,
+        "env": {**os.environ, **words, **({"STOP_KILLS": "1"} if stop.kills else {})},
+        "pass_fds": (trace.fileno(),),
+    }
 
 
 def session_of(status, replies, err, trace):
@@ -65,7 +75,14 @@ def script_stopped(program, db, lines, stop):
     """The session of a script under a stop."""
     with tempfile.TemporaryFile() as trace:
         how = stopping(real(db), stop, trace)
-        ran = subprocess.run([program, "script", "--db", str(real(db))], input=script_of(lines), stdout=subprocess.PIPE, stderr=subprocess.PIPE, timeout=SECONDS, **how)
+        ran = subprocess.run(
+            [program, "script", "--db", str(real(db))],
+            input=script_of(lines),
+            stdout=subprocess.PIPE,
+            stderr=subprocess.PIPE,
+            timeout=SECONDS,
+            **how,
+        )
         return session_of(ran.returncode, ran.stdout.split(b"\n")[:-1], ran.stderr, trace)
 
 
@@ -84,7 +101,9 @@ def server_stopped(program, db, lines, stop):
                 raise
             (status, out, err), failed = error.end, 0
         if out or replies[failed:] != [FAILED] * (len(replies) - failed):
-            raise Unexplained(f"the server has written {out!r}, or answers {replies[failed:]} once its store has failed")
+            raise Unexplained(
+                f"the server has written {out!r}, or answers {replies[failed:]} once its store has failed"
+            )
         return session_of(status, replies[: failed + 1], err, trace)
 
 
@@ -102,7 +121,9 @@ def ended(session, lines):
         return Ended("refused before the first line" if lines else "refused", replies, 0)
     if (status, err) == (1, STORE_FAULT) and len(replies) == len(lines):
         return Ended("refused after the last line", replies, 0)
-    raise Unexplained(f"a session of {len(lines)} requests ends with status {status}, {short(err)}, and has {len(replies)} replies")
+    raise Unexplained(
+        f"a session of {len(lines)} requests ends with status {status}, {short(err)}, and has {len(replies)} replies"
+    )
 
 
 def parts_of(bytes, is_whole, place):
