@@ -50,7 +50,11 @@ class Call(typing.NamedTuple):
 
 def crates():
     """The crates of the product, lowest first."""
-    names = [line.split(":")[0].split()[0] for line in (TOP / "crates.txt").read_text().splitlines() if line.strip() and not line.startswith("#")]
+    names = [
+        line.split(":")[0].split()[0]
+        for line in (TOP / "crates.txt").read_text().splitlines()
+        if line.strip() and not line.startswith("#")
+    ]
     return [name for name in names if not name.endswith("_tests") and name != "crush_bench"]
 
 
@@ -67,7 +71,9 @@ def shown_by(crate):
 
 def shown_in(text):
     """The same, from the text of the crate's `lib.rt`."""
-    names = {name.strip() for _, many, one in PUBLIC_USE.findall(text) for name in (many or one).split(",") if name.strip()}
+    names = {
+        name.strip() for _, many, one in PUBLIC_USE.findall(text) for name in (many or one).split(",") if name.strip()
+    }
     return {"lib", *PUBLIC_MODULE.findall(text)}, names
 
 
@@ -109,7 +115,11 @@ def read(text, whole, shown):
                 break
             if not clauses and line.rstrip().endswith(("{", "}")):
                 break
-        if (pub and (whole or name in shown)) if owner is None else is_public and (pub or kind in ("trait", "trait impl")):
+        if (
+            (pub and (whole or name in shown))
+            if owner is None
+            else is_public and (pub or kind in ("trait", "trait impl"))
+        ):
             calls.append(Call(owner, name, first + 1, one_line(takes, name), clauses, comment_above(lines, first)))
     return calls, ghosts
 
@@ -180,4 +190,7 @@ def cited():
             for owner, path, name in cited_in(source.read_text(), source.stem in modules, shown):
                 if owner in product:
                     found.setdefault((owner, path.replace(".", "/") + ".antt"), set()).add(name)
-    return {key: sorted(found[key], key=lambda name: (name.lower(), name)) for key in sorted(found, key=lambda key: (product.index(key[0]), key[1]))}
+    return {
+        key: sorted(found[key], key=lambda name: (name.lower(), name))
+        for key in sorted(found, key=lambda key: (product.index(key[0]), key[1]))
+    }

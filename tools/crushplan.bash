@@ -16,19 +16,19 @@ _crushplan() {
     local word=${COMP_WORDS[COMP_CWORD]} before=${COMP_WORDS[COMP_CWORD - 1]} command= folder= options kind place=0 it
     local commands="fetch check usage compare drain fail plan balance upmap locate metrics help"
     local common="--help --json --csv --service --program --size --pg-num --min-size --allow-unplaced"
-    local valued=" --service --program --size --pg-num --min-size --ceph --mend --html --pool --by --each --class --group --rate --to --deviation --moves --until-fill --for-bytes --lines "
+    local valued=" --service --program --size --pg-num --min-size --ceph --mend --html --on --objects --only-on --left --pool --by --each --class --group --rate --to --deviation --moves --until-fill --for-bytes --lines "
     [ "$COMP_CWORD" -lt 2 ] || command=${COMP_WORDS[1]}
     case $command in
         fetch) options="--help --ceph" ;;
         check) options="$common --html --mend" ;;
         usage) options="$common --html --pool --by --groups" ;;
-        compare) options="$common --html --groups" ;;
+        compare) options="$common --html --on --groups" ;;
         drain) options="$common --html --class --by --groups" ;;
-        fail) options="$common --html --class --each --by --groups" ;;
-        plan) options="$common --html --rate --orders --groups" ;;
-        balance) options="$common --html --class --deviation --moves --until-fill --primaries --for-bytes --lines" ;;
+        fail) options="$common --html --on --class --each --by --groups" ;;
+        plan) options="$common --html --on --rate --orders --groups" ;;
+        balance) options="$common --html --on --pool --class --deviation --moves --until-fill --primaries --for-bytes --lines" ;;
         upmap) options="$common --html" ;;
-        locate) options="$common --group" ;;
+        locate) options="$common --group --objects --only-on --left --no-head" ;;
         metrics) options="$common --each --to" ;;
         help) options=$commands ;;
         *) options="$commands --help --version" ;;
@@ -44,8 +44,9 @@ _crushplan() {
         --by:* | --each:*) kind=types ;;
         --class:*) kind=classes ;;
         --pool:*) kind=pools ;;
-        --program:* | --html:* | --mend:* | --to:* | --lines:*) kind=files ;;
-        --service:* | --size:* | --pg-num:* | --min-size:* | --ceph:* | --group:* | --rate:* | --deviation:* | --moves:* | --until-fill:* | --for-bytes:*) kind=none ;;
+        --program:* | --html:* | --mend:* | --to:* | --lines:* | --objects:*) kind=files ;;
+        --only-on:*) kind=items ;;
+        --service:* | --size:* | --pg-num:* | --min-size:* | --ceph:* | --group:* | --rate:* | --deviation:* | --moves:* | --until-fill:* | --for-bytes:* | --on:* | --left:*) kind=none ;;
         *:-*) kind=options ;;
         *)
             case $command:$place in
@@ -53,8 +54,8 @@ _crushplan() {
                 help:*) kind=none ;;
                 *:0) kind=folders ;;
                 drain:* | fail:*) kind=items ;;
-                locate:1 | balance:*) kind=pools ;;
-                compare:1 | plan:1 | upmap:1) kind=files ;;
+                locate:1 | balance:* | usage:*) kind=pools ;;
+                compare:* | plan:1 | upmap:1) kind=files ;;
                 *) kind=none ;;
             esac
             ;;

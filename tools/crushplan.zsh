@@ -13,7 +13,7 @@ _crushplan_names() {
 _crushplan() {
     local curcontext=$curcontext state line command program=${(Q)words[1]/#\~\//$HOME/}
     typeset -A opt_args
-    local -a commands common drawn until changed
+    local -a commands common on drawn until pools changed
     commands=(
         'fetch:writes the files of a cluster into a folder'
         'check:says what can be computed, and what not'
@@ -40,6 +40,7 @@ _crushplan() {
         '--allow-unplaced[takes devices that the map lacks]'
         '1:folder:_directories'
     )
+    on=('--on[asks the workers of a scheduler of Dask]:URL:')
     drawn=('--html[also writes a page with a drawing]:file:_files')
     until=(
         '(--moves --until-fill --primaries)--deviation[until each device is as near to its share]:number:'
@@ -47,6 +48,7 @@ _crushplan() {
         '(--deviation --moves --primaries)--until-fill[until no device is past so many percent]:number:'
         '(--deviation --moves --until-fill)--primaries[evens out primaries instead]'
     )
+    pools=('*--pool[a pool]:pool:->pools' '*:pool:->pools')
     changed=(
         '--class[the devices of a class alone]:class:->classes'
         '--by[usage by a type]:type:->types'
@@ -67,15 +69,17 @@ _crushplan() {
     case $command in
         fetch) _arguments -C '(- *)--help[shows the help of the command]' '--ceph[the command]:command:' '1:folder:_directories' ;;
         check) _arguments -C $common $drawn '--mend[writes the map with its holes filled]:file:_files' ;;
-        usage) _arguments -C $common $drawn '*--pool[a pool]:pool:->pools' '--by[usage by a type]:type:->types' '--groups[lists groups too]' ;;
-        compare) _arguments -C $common $drawn '--groups[lists groups too]' '2:changed map:_files' ;;
+        usage) _arguments -C $common $drawn $pools '--by[usage by a type]:type:->types' '--groups[lists groups too]' ;;
+        compare) _arguments -C $common $drawn $on '--groups[lists groups too]' '*:changed map:_files' ;;
         drain) _arguments -C $common $drawn $changed ;;
-        fail) _arguments -C $common $drawn $changed '--each[every item of a type in turn]:type:->types' ;;
-        plan) _arguments -C $common $drawn '--rate[megabytes a second of a device]:number:' '--orders[tries other orders too]' '--groups[lists groups, in JSON and CSV]' '2:runbook:_files' ;;
-        balance) _arguments -C $common $drawn $until '--class[what rules take of a class alone]:class:->classes' \
-                '--for-bytes[percent of moves more for bytes]:number:' '--lines[writes the lines alone]:file:_files' '*:pool:->pools' ;;
+        fail) _arguments -C $common $drawn $on $changed '--each[every item of a type in turn]:type:->types' ;;
+        plan) _arguments -C $common $drawn $on '--rate[megabytes a second of a device]:number:' '--orders[tries other orders too]' '--groups[lists groups, in JSON and CSV]' '2:runbook:_files' ;;
+        balance) _arguments -C $common $drawn $on $until $pools '--class[what rules take of a class alone]:class:->classes' \
+                '--for-bytes[percent of moves more for bytes]:number:' '--lines[writes the lines alone]:file:_files' ;;
         upmap) _arguments -C $common $drawn '2:list of commands:_files' ;;
-        locate) _arguments -C $common '*--group[a group, as 5.1f]:group:' '2:pool:->pools' '*:object:' ;;
+        locate) _arguments -C $common '*--group[a group, as 5.1f]:group:' '--objects[a list of names]:file:_files' \
+                '--only-on[just what lies there]:name:->items' '--left[at most so many copies elsewhere]:number:' \
+                '--no-head[no line of heads]' '2:pool:->pools' '*:object:' ;;
         metrics) _arguments -C $common '*--each[a type whose buckets fail in turn]:type:->types' '--to[writes into a file]:file:_files' ;;
         help) ((CURRENT == 2)) && _describe -t commands command commands ;;
     esac

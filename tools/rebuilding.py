@@ -17,7 +17,10 @@ def ran(words, folder):
     """Runs a command; its output is shown where it fails."""
     done = subprocess.run(words, cwd=folder, stdin=subprocess.DEVNULL, stdout=subprocess.PIPE, stderr=subprocess.STDOUT)
     if done.returncode:
-        sys.exit(f"{' '.join(words)} ends with {done.returncode}:\n{done.stdout.decode(errors='replace')[-3000:]}\n0 passed, 1 failed")
+        sys.exit(
+            f"{' '.join(words)} ends with {done.returncode}:\n{done.stdout.decode(errors='replace')[-3000:]}\n0 passed,"
+            " 1 failed"
+        )
     return done.stdout.decode(errors="replace")
 
 

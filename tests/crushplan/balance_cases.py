@@ -4,10 +4,12 @@ once the lines are there."""
 import collections
 import copy
 import fractions
+import json
 import types
 
 from crushplan_parts.crush_map import Bucket, CrushMap
 from crushplan_parts.evening import Ground, InnerSearch, Search
+from crushplan_parts.parts import Parts
 from crushplan_parts.proposal import Stopped
 from crushplan_parts.rule_shares import Block, Zone, capped
 from made import ONE, STEPS, cluster, crush_dump, osd_dump, pool, rule, text_of, write
@@ -116,6 +118,70 @@ def interrupted(runner, folder):
         collections.Counter(it for own in found.at.values() for it in own),
         collections.Counter(+collections.Counter(found.count)),
     )
+
+
+# ---- whole parts of a rule of two levels
+
+
+def parted(lists, devices, width=2):
+    """A pool as Parts and the search take it, whose groups have one part each: letters are devices,
+    each its own lower domain, and of an upper domain by `devices`."""
+    upper = {it: name for name, own in devices.items() for it in own}
+    block = types.SimpleNamespace(width=width, upper=upper, domain=alone(upper))
+    free = dict(enumerate(lists))
+    zone = {it: (0, name) for it, name in upper.items()}
+    ground = Ground(free, dict.fromkeys(free, ()), {}, zone, alone(upper))
+    return Parts(types.SimpleNamespace(blocks=[block], ground=ground, by_device=zone, free=free)), ground
+
+
+def whole_parts(runner, folder):
+    """Each device is to have two. A has four parts, of which one goes: 2 copies. B gets it, and f,
+    which lacks two, gets one of it; so the other comes from d or e inside: 3 in all, where each
+    device by itself would ask for 2."""
+    lists = [("a", "b"), ("a", "c"), ("b", "c"), ("a", "b"), ("d", "e"), ("d", "e")]
+    parts, ground = parted(lists, {"A": "abc", "B": "def"})
+    limits = [dict.fromkeys("abcdef", 2)] * 2
+    equals(
+        "parts",
+        {zone[1]: (it.first, it.parts) for zone, it in parts.targets(*limits).items()},
+        {"A": (4, 3), "B": (2, 3)},
+    )
+    equals(
+        "the least", (parts.least(*limits), ground.least(*limits, "abcdef"), parts.are_possible(*limits)), (3, 2, True)
+    )
+    # f may have none, and then two devices of B have three each, or A keeps its part: both are one
+    # past their limits, and no number of whole parts gives each its two
+    fewer = {**limits[0], "f": 0}, {**limits[0], "f": 0}
+    equals("not to be had", parts.are_possible(*fewer), False)
+    # where A's devices are to have one each more and B's one each less, nothing has to move
+    other = {**dict.fromkeys("abc", 2), **dict.fromkeys("def", 0)}, {
+        **dict.fromkeys("abc", 3),
+        **dict.fromkeys("def", 2),
+    }
+    equals("nothing", (parts.least(*other), parts.are_possible(*other)), (0, True))
+
+
+def odd_parts(runner, folder):
+    """Twelve devices in four hosts share 180 copies, 15 each, of which a group has two in each of
+    two hosts: each host has an even number, so one of its devices can't have 15."""
+    crush = crush_dump()
+    steps = (
+        STEPS[0],
+        {"op": "choose_firstn", "num": 2, "type": "host"},
+        {"op": "choose_firstn", "num": 2, "type": "osd"},
+        STEPS[2],
+    )
+    crush["rules"][0]["steps"] = list(steps)
+    write(folder, crush, osd_dump(pools=[pool(1, "photos", size=4, pg_num=45)]))
+    said = runner.said("balance", folder, status=1)
+    after = placed_by(crush, said, size=4, pg_num=45)
+    counts = entries(after)
+    equals("copies", collections.Counter(abs(counts[it] - 15) for it in range(12)), collections.Counter({0: 8, 1: 4}))
+    for up in after.up:
+        equals("two in each of two hosts", sorted(collections.Counter(it // 3 for it in up).values()), [2, 2])
+    equals("off", len(said["pools"][0]["off"]), 4)
+    text = runner.run("balance", folder)[1]
+    wants("copies of a group go together to another part of the tree, and no numbers of these are nearer" in text, text)
 
 
 # ---- shares by the rule
@@ -241,7 +307,12 @@ def evened(runner, folder):
         [(it["group"], it["after"]) for it in said["groups"]],
         [(group, after.up[group]) for group in sorted(lines_in(said))],
     )
+    usage = [{"device": it, "before": before[it], "after": 16, "share": 16.0} for it in range(12)]
+    equals("usage", said["pools"][0]["usage"], usage)
+    hosts = [{"device": it, "name": f"osd.{it}", "host": f"host{it // 3}"} for it in range(12)]
+    equals("devices", said["devices"], hosts)
     text = runner.run("balance", folder)[1]
+    wants(all(f"\n{it}\n" in text for it in said["remarks"]), said["remarks"])
     wants(
         f"{said['copies']} copies move by {len(said['lines'])} lines, and no list of items does it with fewer." in text,
         text,
@@ -385,6 +456,9 @@ def down(runner, folder):
     before, after = entries(Placed(text_of(crush), **PHOTOS)), entries(placed_by(crush, said))
     share = fractions.Fraction(192 - before[4], 11)
     equals("osd.4", after[4], before[4])
+    usage = {it["device"]: (it["before"], it["after"], it["share"]) for it in said["pools"][0]["usage"]}
+    cut = int(share * 1000) / 1000
+    equals("usage", usage, {it: (before[it], after[it], None if it == 4 else cut) for it in range(12)})
     wants(all(abs(after[it] - share) < 1 for it in range(12) if it != 4), after)
 
 
@@ -477,12 +551,35 @@ def several(runner, folder):
         )
     equals("copies of all three, of 8", sorted(counts.values()), [8] * 12)
     equals("the fullest", said["fullest"]["after"]["percent"], 100.0)
+    extra = f", {said['extra']} of these copies only to even out copies"
+    wants(said["extra"] and f" by {len(said['lines'])} lines{extra}; " in said["answer"], said["answer"])
     none = runner.said("balance", folder, "--for-bytes", 0, status=0)
     equals(
         "no move more than each pool wants",
         (none["extra"], none["copies"]),
         (0, sum(it["least"] for it in none["pools"])),
     )
+
+
+def named(runner, folder):
+    """Pools stand by themselves or behind --pool, here as in 'usage'; a note on a pool's number of
+    groups stands where bytes of this pool are said."""
+    crush, taken = crush_dump(), {"stored": 48 * EACH, "objects": 1, "bytes_used": 144 * EACH}
+    pools = [pool(1, "photos"), pool(2, "mail", pg_num=48)]
+    stats = [{"name": it["pool_name"], "id": it["pool"], "stats": taken} for it in pools]
+    write(folder, crush, osd_dump(pools=pools), df_json={"stats": {}, "pools": stats})
+    for command in ("usage", "balance"):
+        for name, notes in (("photos", []), ("mail", ["pg_num"])):
+            said = [runner.said(command, folder, *words, status=0) for words in ((name,), ("--pool", name))]
+            equals(f"{command} {name}", said[0], said[1])
+            equals("of this pool alone", [it["name"] for it in said[0]["pools"]], [name])
+            equals(f"notes of {command} {name}", [it["kind"] for it in said[0]["notes"]], notes)
+        both = [it["name"] for it in runner.said(command, folder, "mail", "--pool", "photos", status=0)["pools"]]
+        equals("both", sorted(both), ["mail", "photos"])
+    for words in (("check",), ("locate", "mail", "x"), ("balance", "--primaries"), ("plan", "-")):
+        own = [words[0], folder, *words[1:], "--json"]
+        said = json.loads(runner.run(*own, given=b"ceph osd set noout")[1])
+        wants("error" in said or "pg_num" not in [it["kind"] for it in said["notes"]], (words, said))
 
 
 def primaries(runner, folder):
@@ -516,6 +613,9 @@ def primaries(runner, folder):
     before = collections.Counter(it[0] for it in up)
     least = max(sum(max(0, before[it] - 6) for it in range(12)), sum(max(0, 5 - before[it]) for it in range(12)))
     equals("the least", (said["least"], said["changed"] >= least), (least, True))
+    after = collections.Counter(own.values())
+    usage = [{"device": it, "before": before[it], "after": after[it], "share": 5.333} for it in range(12)]
+    equals("usage", (said["pools"][0]["usage"], [it["device"] for it in said["devices"]]), (usage, [*range(12)]))
     # with these there, and once more: none changes; without need one goes back
     osd["pg_upmap_primaries"] = [
         {"pgid": line.split()[3], "primary_osd": int(line.split()[4])} for line in said["lines"]
@@ -584,9 +684,10 @@ def doubted(runner, folder):
 def cases():
     return (
         ("direct", direct), ("ways", ways), ("moved_again", moved_again), ("domains", domains),
-        ("interrupted", interrupted), ("shares", shares), ("shares_of_two_levels", shares_of_two_levels),
+        ("interrupted", interrupted), ("whole_parts", whole_parts), ("odd_parts", odd_parts), ("shares", shares),
+        ("shares_of_two_levels", shares_of_two_levels),
         ("evened", evened), ("read_again", read_again), ("bounded", bounded), ("earlier_items", earlier_items),
         ("heavy", heavy), ("left_out", left_out), ("down", down), ("classes", classes), ("fills", fills),
-        ("several", several), ("primaries", primaries),
+        ("several", several), ("named", named), ("primaries", primaries),
         ("refused", refused), ("doubted", doubted),
     )  # fmt: skip

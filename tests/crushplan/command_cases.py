@@ -43,7 +43,8 @@ def ranges(runner, folder):
         (("osd.1[01]",), [10, 11], "This is of 2 devices: osd.10, osd.11."),
         (("r1", "--class", "ssd"), [0, 2, 4], "This is of 3 devices of the class ssd, below r1: osd.0, osd.2, osd.4."),
         (("--class", "hdd"), [1, 3, 5, 7, 9, 11], "This is of 6 devices of the class hdd: osd.1, "),
-        (("r2h2",), [9, 10, 11], None), (("--by", "host", "osd.1", "--groups", "osd.2"), [1, 2], None),
+        (("r2h2",), [9, 10, 11], None),
+        (("--by", "host", "osd.1", "--groups", "osd.2"), [1, 2], None),
     ):
         equals(f"drain {words}", runner.said("drain", folder, *words)["devices"], devices)
         text = runner.run("fail", folder, *words)[1]
@@ -63,8 +64,10 @@ def named_nothing(runner, folder):
     for words, wanted in (
         (("r9*",), "crush.json has no host, rack or device whose name is as 'r9*'"),
         (("r1", "osd.[x]"), "no host, rack or device whose name is as 'osd.[x]'"),
-        (("osd.50-60",), "crush.json has none of osd.50-60"), (("osd.5-1",), "osd.5-1 goes down: a range is as osd.1-5"),
-        (("disk1-2",), "no host, rack or device 'disk1-2'"), (("--class", "sdd"), "no device of the class 'sdd'; the nearest is ssd"),
+        (("osd.50-60",), "crush.json has none of osd.50-60"),
+        (("osd.5-1",), "osd.5-1 goes down: a range is as osd.1-5"),
+        (("disk1-2",), "no host, rack or device 'disk1-2'"),
+        (("--class", "sdd"), "no device of the class 'sdd'; the nearest is ssd"),
         (("osd.1", "--class", "ssd"), "osd.1 has no devices of the class ssd"),
     ):  # fmt: skip
         runner.refused("drain", folder, *words, has=wanted)
@@ -86,8 +89,10 @@ def misused(runner, folder):
     """Errors of arguments are JSON where that is asked for, and text on standard error always."""
     for words, command, why in (
         (("drain", "--json"), "drain", "the following arguments are required: DIR"),
-        (("fly", "--json"), None, "argument COMMAND: invalid choice: 'fly'"), (("--json",), None, "unrecognized arguments: --json"),
-        (("usage", folder, "--size", "0", "--json"), "usage", "argument --size: '0' isn't a whole number from 1 to 65536"),
+        (("fly", "--json"), None, "argument COMMAND: invalid choice: 'fly'"),
+        (("--json",), None, "unrecognized arguments: --json"),
+        (("usage", folder, "--size", "0", "--json"), "usage",
+         "argument --size: '0' isn't a whole number from 1 to 65536"),
         (("drain", folder, "host1", "--csv", "--json"), "drain", "argument --json: not allowed with argument --csv"),
         (("drain", folder, "--json"), "drain", "crushplan drain wants the names of hosts, racks or devices"),
     ):  # fmt: skip
@@ -119,7 +124,8 @@ def progress(runner, folder):
     environment.update(TERM="xterm", NO_COLOR="1", CRUSHCALC=str(slow))
     own = (
         ("check", folder), ("usage", folder), ("compare", folder, folder / "crush.json"), ("drain", folder, "host0"),
-        ("fail", folder, "host0"), ("upmap", folder, folder / "list"), ("locate", folder, "photos", "a"), ("fetch", folder / "new", "--ceph", ceph),
+        ("fail", folder, "host0"), ("upmap", folder, folder / "list"), ("locate", folder, "photos", "a"),
+        ("fetch", folder / "new", "--ceph", ceph),
     )  # fmt: skip
     with concurrent.futures.ThreadPoolExecutor(len(own)) as jobs:
         found = list(jobs.map(lambda words: on_terminal(words, environment), own))
@@ -135,8 +141,13 @@ def progress(runner, folder):
 def asked_of_bash(*words):
     """What the completion of bash offers for the last of some words."""
     line = " ".join("'" + str(it).replace("'", "'\\''") + "'" for it in words)
-    script = f"source {PLAN.parent / 'crushplan.bash'}; COMP_WORDS=({line}); COMP_CWORD={len(words) - 1}; _crushplan; printf '%s\\n' \"${{COMPREPLY[@]}}\""
-    return sorted(subprocess.run(["bash", "-c", script], stdout=subprocess.PIPE, check=True).stdout.decode().splitlines())
+    script = (
+        f"source {PLAN.parent / 'crushplan.bash'}; COMP_WORDS=({line}); COMP_CWORD={len(words) - 1}; _crushplan; printf"
+        " '%s\\n' \"${COMPREPLY[@]}\""
+    )
+    return sorted(
+        subprocess.run(["bash", "-c", script], stdout=subprocess.PIPE, check=True).stdout.decode().splitlines()
+    )
 
 
 def bash(runner, folder):
@@ -144,11 +155,15 @@ def bash(runner, folder):
     that is named, wherever they stand."""
     racks(folder)
     for words, wanted in (
-        (("drain", folder, "r1"), ["r1", "r1h1", "r1h2"]), (("drain", folder, "--by", "host", "r2", "osd.1"), ["osd.1", "osd.10", "osd.11"]),
-        (("fail", "--groups", folder, "r2"), ["r2", "r2h1", "r2h2"]), (("fail", folder, "--each", "r"), ["rack", "root"]),
-        (("usage", folder, "--pool", ""), ["my\\ pool", "photos"]), (("locate", folder, "p"), ["photos"]), (("locate", folder, "photos", ""), [""]),
-        (("drain", folder, "--class", ""), ["hdd", "ssd"]), (("drain", folder / "nothing", "h"), [""]), (("help", "d"), ["drain"]), (("d",), ["drain"]),
-        (("drain", f"{folder}/"), [""]), (("compare", folder, f"{folder}/os"), [f"{folder}/osd.json"]), (("drain", folder, "--ht"), ["--html"]),
+        (("drain", folder, "r1"), ["r1", "r1h1", "r1h2"]),
+        (("drain", folder, "--by", "host", "r2", "osd.1"), ["osd.1", "osd.10", "osd.11"]),
+        (("fail", "--groups", folder, "r2"), ["r2", "r2h1", "r2h2"]),
+        (("fail", folder, "--each", "r"), ["rack", "root"]),
+        (("usage", folder, "--pool", ""), ["my\\ pool", "photos"]), (("locate", folder, "p"), ["photos"]),
+        (("locate", folder, "photos", ""), [""]), (("drain", folder, "--class", ""), ["hdd", "ssd"]),
+        (("drain", folder / "nothing", "h"), [""]), (("help", "d"), ["drain"]), (("d",), ["drain"]),
+        (("drain", f"{folder}/"), [""]), (("compare", folder, f"{folder}/os"), [f"{folder}/osd.json"]),
+        (("drain", folder, "--ht"), ["--html"]),
     ):  # fmt: skip
         equals(words, asked_of_bash(PLAN, *words), wanted)
 
@@ -161,8 +176,16 @@ def zsh_shows(folder, typed, wanted):
         functions.mkdir()
         shutil.copy(PLAN.parent / "crushplan.zsh", functions / "_crushplan")
     leader, follower = pty.openpty()
-    environment = {**os.environ, "TERM": "dumb", "COLUMNS": "200", "LINES": "50", "PATH": f"{PLAN.parent}:{os.environ['PATH']}"}
-    ran = subprocess.Popen(["zsh", "-f", "-i"], stdin=follower, stdout=follower, stderr=follower, env=environment, start_new_session=True)
+    environment = {
+        **os.environ,
+        "TERM": "dumb",
+        "COLUMNS": "200",
+        "LINES": "50",
+        "PATH": f"{PLAN.parent}:{os.environ['PATH']}",
+    }
+    ran = subprocess.Popen(
+        ["zsh", "-f", "-i"], stdin=follower, stdout=follower, stderr=follower, env=environment, start_new_session=True
+    )
     os.close(follower)
     begin = f"PROMPT=; LISTMAX=0; fpath=({functions} $fpath); autoload -Uz compinit; compinit -u -D; print rea''dy\n"
     os.write(leader, begin.encode())
@@ -185,16 +208,31 @@ def zsh_shows(folder, typed, wanted):
 def zsh(runner, folder):
     """So has that of zsh, where there is a zsh; its commands and options are those of the help."""
     script = (PLAN.parent / "crushplan.zsh").read_text()
-    for name in ("fetch", "check", "usage", "compare", "drain", "fail", "plan", "balance", "upmap", "locate", "metrics"):
+    for name in (
+        "fetch",
+        "check",
+        "usage",
+        "compare",
+        "drain",
+        "fail",
+        "plan",
+        "balance",
+        "upmap",
+        "locate",
+        "metrics",
+    ):
         wants(f"'{name}:" in script and f"        {name}) _arguments" in script, f"no {name}")
-        for option in re.findall(r"--[a-z-]+", runner.run(name, "--help")[1].split("example: ")[0].split("options:")[1]):
+        for option in re.findall(
+            r"--[a-z-]+", runner.run(name, "--help")[1].split("example: ")[0].split("options:")[1]
+        ):
             wants(f"{option}[" in script, f"no {option} of {name}")
     if not shutil.which("zsh"):
         return
     racks(folder)
     for typed, wanted in (
         (f"crushplan drain {folder} r1", ["r1h1", "r1h2"]), (f"crushplan fail {folder} --each r", ["rack", "root"]),
-        (f"crushplan usage {folder} --pool ", ["my\\ pool", "photos"]), (f"crushplan drain {folder} --class ", ["hdd", "ssd"]),
+        (f"crushplan usage {folder} --pool ", ["my\\ pool", "photos"]),
+        (f"crushplan drain {folder} --class ", ["hdd", "ssd"]),
         ("crushplan ", ["compare", "locate"]),
     ):  # fmt: skip
         said = zsh_shows(folder, typed, wanted)

@@ -48,7 +48,12 @@ class Comparison:
 
     def plan(self, command, *words):
         """What crushplan answers: its JSON."""
-        ran = subprocess.run([*self.command, command, str(self.folder), *map(str, words), "--json"], stdout=subprocess.PIPE, stderr=subprocess.PIPE, text=True)
+        ran = subprocess.run(
+            [*self.command, command, str(self.folder), *map(str, words), "--json"],
+            stdout=subprocess.PIPE,
+            stderr=subprocess.PIPE,
+            text=True,
+        )
         if ran.stderr or not ran.stdout:
             raise Differs(f"{command} {' '.join(map(str, words))} says {(ran.stderr or ran.stdout)[-2000:]!r}")
         said = json.loads(ran.stdout)
@@ -63,14 +68,22 @@ class Comparison:
         self.same_usage("usage", {it["device"]: (it["copies"], it["primaries"]) for it in said["rows"]}, self.before)
         for name in self.answers["types"]:
             rows = self.plan("usage", "--by", name)["rows"]
-            same(f"usage by {name}", sum(it["copies"] for it in rows), sum(it is not None for _, up, _ in self.before.values() for it in up))
+            same(
+                f"usage by {name}",
+                sum(it["copies"] for it in rows),
+                sum(it is not None for _, up, _ in self.before.values() for it in up),
+            )
 
     def same_usage(self, what, here, placements):
         entries, primaries = collections.Counter(), collections.Counter()
         for _, up, primary in placements.values():
             entries.update(it for it in up if it is not None)
             primaries.update([] if primary is None else [primary])
-        same(what, {it: of for it, of in here.items() if of != (0, 0)}, {it: (entries[it], primaries[it]) for it in entries})
+        same(
+            what,
+            {it: of for it, of in here.items() if of != (0, 0)},
+            {it: (entries[it], primaries[it]) for it in entries},
+        )
         self.counts["sums"] += len(entries)
 
     def anew(self, before, after):
@@ -80,7 +93,11 @@ class Comparison:
         """Compares the groups that move, each with both lists and primaries."""
         own = ("before", "after", "primary_before", "primary_after")
         here = {it["id"]: [it.get(name) for name in own] for it in said["groups"]}
-        ceph = {at: [self.before[at][1], after[at][1], self.before[at][2], after[at][2]] for at in after if self.before[at][1] != after[at][1]}
+        ceph = {
+            at: [self.before[at][1], after[at][1], self.before[at][2], after[at][2]]
+            for at in after
+            if self.before[at][1] != after[at][1]
+        }
         if said["groups"] and "primary_after" not in said["groups"][0]:
             ceph = {at: [*it[:2], None, None] for at, it in ceph.items()}
         same(f"{what}, groups that move", here, ceph)
@@ -90,10 +107,18 @@ class Comparison:
     def summary(self, what, said, after):
         self.moved(what, said, after)
         for name, placements in (("after", after), ("before", self.before)):
-            self.same_usage(f"{what}, usage {name}", {it["device"]: (it[f"copies_{name}"], it[f"primaries_{name}"]) for it in said["usage"]}, placements)
+            self.same_usage(
+                f"{what}, usage {name}",
+                {it["device"]: (it[f"copies_{name}"], it[f"primaries_{name}"]) for it in said["usage"]},
+                placements,
+            )
         for name, placements in (("", after), ("_before", self.before)):
             lacking = [self.pool(at)["size"] - copies(it[1]) for at, it in placements.items()]
-            same(f"{what}, short{name}", (said["short"]["groups" + name], said["short"]["copies" + name]), (sum(it > 0 for it in lacking), sum(it for it in lacking if it > 0)))
+            same(
+                f"{what}, short{name}",
+                (said["short"]["groups" + name], said["short"]["copies" + name]),
+                (sum(it > 0 for it in lacking), sum(it for it in lacking if it > 0)),
+            )
 
     def drain(self, it):
         what, devices = f"drain {' '.join(it['names'])}", it["devices"]
@@ -107,7 +132,9 @@ class Comparison:
             first = {**self.before, **it["purge"]["weight_first"]}
             self.same_step(f"{what}, purge", said["purge"], after, {**after, **it["purge"]["purge"]})
             self.same_step(f"{what}, weight first", said["weight_first"], self.before, first)
-            self.same_step(f"{what}, then purge", said["weight_first"]["then_purge"], first, {**first, **it["purge"]["then_purge"]})
+            self.same_step(
+                f"{what}, then purge", said["weight_first"]["then_purge"], first, {**first, **it["purge"]["then_purge"]}
+            )
 
     def same_step(self, what, said, before, after):
         moved = {at: [before[at][1], after[at][1]] for at in before if before[at][1] != after[at][1]}
@@ -119,8 +146,14 @@ class Comparison:
         what, down = f"fail {' '.join(it['names'])}", {**self.before, **it["down"]}
         said = self.plan("fail", *it["names"], "--groups")
         left = {at: copies(up) for at, (_, up, _) in down.items()}
-        short = {at: [down[at][1], down[at][2], left[at], left[at] < self.pool(at)["min_size"]] for at in down if left[at] < self.pool(at)["size"]}
-        here = {of["id"]: [of["up"], of["primary"], of["copies"], of["below_min_size"]] for of in said["down"]["groups"]}
+        short = {
+            at: [down[at][1], down[at][2], left[at], left[at] < self.pool(at)["min_size"]]
+            for at in down
+            if left[at] < self.pool(at)["size"]
+        }
+        here = {
+            of["id"]: [of["up"], of["primary"], of["copies"], of["below_min_size"]] for of in said["down"]["groups"]
+        }
         same(f"{what}, groups that are short", here, short)
         stopped = sum(of[3] for of in short.values())
         same(f"{what}, numbers", (said["down"]["short"], said["down"]["below_min_size"]), (len(short), stopped))
@@ -138,15 +171,37 @@ class Comparison:
         same(f"each {name}, order", worst, sorted(worst, reverse=True))
         for of in hosts[:: max(1, len(hosts) // 2)]:
             row, said = rows[of], self.plan("fail", of)
-            here = (row["below_min_size"], row["short_down"], row["moved"], row["copies"], row["missing_copies"], row["short_groups"])
+            here = (
+                row["below_min_size"],
+                row["short_down"],
+                row["moved"],
+                row["copies"],
+                row["missing_copies"],
+                row["short_groups"],
+            )
             out = said["out"]
-            same(f"each {name}, {of}", here, (said["down"]["below_min_size"], said["down"]["short"], out["moved"], out["copies"], out["short"]["copies"], out["short"]["groups"]))
+            same(
+                f"each {name}, {of}",
+                here,
+                (
+                    said["down"]["below_min_size"],
+                    said["down"]["short"],
+                    out["moved"],
+                    out["copies"],
+                    out["short"]["copies"],
+                    out["short"]["groups"],
+                ),
+            )
 
     def upmap(self, path, it):
         said = self.plan("upmap", path)
         here = {of["id"]: [of["raw"], of["before"], of["after"], of["primary_after"]] for of in said["groups"]}
         same("upmap, groups", here, {at: [of[0], self.before[at][1], of[1], of[2]] for at, of in it["after"].items()})
-        same("upmap, kept", {of["id"]: of["kept"] for of in said["groups"]}, {at: it["kept"].get(at, []) for at in it["after"]})
+        same(
+            "upmap, kept",
+            {of["id"]: of["kept"] for of in said["groups"]},
+            {at: it["kept"].get(at, []) for at in it["after"]},
+        )
         self.counts["upmaps"] += len(here)
 
     def compare(self, path, after):
@@ -156,7 +211,11 @@ class Comparison:
     def locate(self, it):
         said = self.plan("locate", it["pool"], *(name for name, _, _ in it["objects"]))["objects"]
         for (name, group, up), of in zip(it["objects"], said):
-            same(f"locate {name}", [of["id"], of["up"], of["raw"], of["primary"]], [group, up, self.before[group][0], self.before[group][2]])
+            same(
+                f"locate {name}",
+                [of["id"], of["up"], of["raw"], of["primary"]],
+                [group, up, self.before[group][0], self.before[group][2]],
+            )
         self.counts["objects"] += len(said)
 
     def uncomputed(self):
@@ -165,7 +224,11 @@ class Comparison:
         ruleless = set(self.answers["ruleless"])
         for command in ("usage", "check"):
             said = self.plan(command, *["--groups"] * (command == "usage"))
-            same(f"{command}, left out", sorted(pool for it in said["uncomputed"] for pool in it["pools"]), sorted(ruleless))
+            same(
+                f"{command}, left out",
+                sorted(pool for it in said["uncomputed"] for pool in it["pools"]),
+                sorted(ruleless),
+            )
             if command == "usage":
                 here = {it["id"]: [it["raw"], it["up"], it["primary"]] for it in said["groups"]}
         computed = {at: it for at, it in self.before.items() if int(at.split(".")[0]) not in ruleless}
@@ -175,7 +238,11 @@ class Comparison:
             self.compare(self.folder / name, after)
         if not self.answers["maps"]:
             # Ceph has placed nothing where it finds no rule
-            same("groups without a rule", {str(it) for at, it in self.before.items() if at not in computed}, {str([[], [], None])})
+            same(
+                "groups without a rule",
+                {str(it) for at, it in self.before.items() if at not in computed},
+                {str([[], [], None])},
+            )
         return self.counts
 
     def all(self):

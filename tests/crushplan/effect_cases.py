@@ -92,11 +92,11 @@ def given(line, own, there):
                 from crushplan_parts.crush_map import Rule
 
                 steps = [
-                    tuple(it[0].split("_")) + tuple(it[1:])
-                    if it[0].startswith("choose")
-                    else (*it, None)
-                    if it is take
-                    else tuple(it)
+                    (
+                        tuple(it[0].split("_")) + tuple(it[1:])
+                        if it[0].startswith("choose")
+                        else (*it, None) if it is take else tuple(it)
+                    )
                     for it in rule[2]
                 ]
                 own.crush.rules[values[3]] = Rule(values[3], rule[0], "erasure", steps, (3, 4))

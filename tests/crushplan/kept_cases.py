@@ -39,8 +39,18 @@ def is_unknown(runner, folder, what, every=False):
     device = json.loads((folder / "osd.json").read_text())["osds"][0]["osd"]
     said = runner.said("check", folder, status=2)
     wants("lie as computed; " in said["answer"] and said["lying"]["others"], f"{what}: check says {said['answer']}")
-    (folder / "list").write_text("".join(f"ceph osd rm-pg-upmap-items {it['id']}\n" for it in said["lying"]["others"][:3]))
-    asked = [("drain", f"osd.{device}"), ("usage",), ("fail", f"osd.{device}"), ("fail", "--each", "host"), ("compare", folder / "crush.json"), ("upmap", folder / "list"), ("locate", "--group", said["lying"]["others"][0]["id"])]
+    (folder / "list").write_text(
+        "".join(f"ceph osd rm-pg-upmap-items {it['id']}\n" for it in said["lying"]["others"][:3])
+    )
+    asked = [
+        ("drain", f"osd.{device}"),
+        ("usage",),
+        ("fail", f"osd.{device}"),
+        ("fail", "--each", "host"),
+        ("compare", folder / "crush.json"),
+        ("upmap", folder / "list"),
+        ("locate", "--group", said["lying"]["others"][0]["id"]),
+    ]
     for command, *words in asked if every else asked[:1]:
         answer = runner.said(command, folder, *words, status=2)["answer"]
         wants(answer.startswith("unknown: "), f"{what}: {command} {words} says {answer}")
@@ -63,7 +73,11 @@ def words_of_a_cluster(runner, folder):
         for it in heavier["buckets"]:
             for of in it["items"]:
                 of["weight"] *= 3 if of["id"] == 1 else 1
-        for what, other in (("a copy of list buckets", as_list), ("another weight", heavier), *([("no weight set", {**map_, "choose_args": {}})] if map_["choose_args"] else [])):
+        for what, other in (
+            ("a copy of list buckets", as_list),
+            ("another weight", heavier),
+            *([("no weight set", {**map_, "choose_args": {}})] if map_["choose_args"] else []),
+        ):
             if not (what == "another weight" and map_["choose_args"]):
                 (folder / "crush.json").write_text(json.dumps(other))
                 is_unknown(runner, folder, f"{name}: {what}", what == "another weight")

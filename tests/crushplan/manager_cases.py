@@ -5,13 +5,14 @@ import importlib.util
 import json
 import os
 import pathlib
+import shutil
 import sys
 import threading
 import time
 import tracemalloc
 import types
 
-from made import crush_dump, osd_dump, write
+from made import crush_dump, osd_dump, pool, write
 from metrics_cases import FULL, FakeModule, failing, stats_of, usage_dump, with_groups
 from running import PLAN, equals, wants
 
@@ -20,11 +21,38 @@ from crushplan_parts.runs import Runs
 from crushplan_parts.watch import Watch
 
 MODULE = PLAN.parent / "mgr" / "crushplan" / "module.py"
+REAL = pathlib.Path(__file__).resolve().parent / "releases"
 LOOKS, MOST_GROWTH = 50, 1 << 20  # of looks at a cluster, and bytes that they may leave
 EIO, EINVAL = -5, -22
 SHORT = 10  # seconds that a program may hang
 # of the replies of crushcalc that of a group with its first two devices in another order
 SWAPPED = r"s/^\(200 {.*\"group\":9,.*\"up\":\[\)\([0-9]*\),\([0-9]*\)/\1\3,\2/"
+
+
+# commands with what `ceph` sends in a file and as options, and the same words of crushplan
+RUNBOOK = "ceph osd out 3\nwait\nceph osd purge 3 --yes-i-really-mean-it\n"
+# what rules have in dumps of release 16 alone, and the steps of one of release 19
+RULE_FIELDS = ("ruleset", "min_size", "max_size")
+MSR_STEPS = [
+    {"op": "take", "item": -1, "item_name": "default"}, {"op": "choosemsr", "num": 0, "type": "host"},
+    {"op": "choosemsr", "num": 1, "type": "osd"}, {"op": "emit"},
+]  # fmt: skip
+NEW_MAP = "ceph osd setcrushmap -i new.bin"
+ASKED = (
+    ("upmap", "ceph osd pg-upmap-items 1.9 3 7\n", {}, []),
+    ("plan", RUNBOOK, {}, []),
+    ("plan", RUNBOOK, {"rate": "80", "orders": True, "groups": True}, ["--rate", "80", "--orders", "--groups"]),
+    ("plan", "ceph osd out 99\n", {}, []),
+    ("balance", "", {}, []),
+    (
+        "balance",
+        "",
+        {"names": ["photos"], "moves": "3", "for_bytes": "0"},
+        ["photos", "--moves", "3", "--for-bytes", "0"],
+    ),
+    ("balance", "", {"until_fill": "80"}, ["--until-fill", "80"]),
+    ("balance", "", {"primaries": True}, ["--primaries"]),
+)
 
 
 class Manager:
@@ -50,15 +78,16 @@ class Manager:
         self.checks.append(checks)
 
 
-def option(name, default, type, desc, **more):  # noqa: A002
+def option(*, name, default, type, desc, **more):  # noqa: A002
+    """Stands for the manager's Option: from release to release its parameters change places."""
     return {"name": name, "default": default}
 
 
-def loaded():
+def loaded(**more):
     """Returns the module, loaded beside a manager's own module that is no more than this."""
     result = collections.namedtuple("HandleCommandResult", "retval stdout stderr")
-    own = types.SimpleNamespace(HandleCommandResult=result, MgrModule=Manager, Option=option)
-    sys.modules.setdefault("mgr_module", own)
+    own = types.SimpleNamespace(HandleCommandResult=result, MgrModule=Manager, Option=option, **more)
+    sys.modules["mgr_module"] = own
     spec = importlib.util.spec_from_file_location("crushplan_of_manager", MODULE)
     found = importlib.util.module_from_spec(spec)
     spec.loader.exec_module(found)
@@ -70,6 +99,7 @@ def module_on(runner, folder, **options):
     osd, crush = (json.loads((folder / f"{name}.json").read_text()) for name in ("osd", "crush"))
     room = json.loads((folder / "osd-df.json").read_text())
     rows = json.loads((folder / "pgs.json").read_text())
+    rows = rows["pg_stats"] if "pg_stats" in rows else rows  # as Ceph writes it
     fake = FakeModule(osd, crush, usage_dump(90), stats_of(room), rows)
     return loaded().Module(fake, folder / "mgr", {"program": str(runner.program), **options})
 
@@ -96,9 +126,13 @@ def commands(runner, folder):
         wanted = runner.said(name, folder, *words)
         status, said = told(module, name, format="json", **given.get(name, {}))
         equals(f"{name}: JSON", (status, json.loads(said)), (0, wanted))
-    pairs = "ceph osd pg-upmap-items 1.9 3 7\n"
-    wanted = runner.run("upmap", folder, "-", given=pairs.encode())[1].replace("\n\n", "\n \n")
-    equals("upmap", told(module, "upmap", pairs), (0, wanted))
+    for name, text, given, words in ASKED:
+        words = [*words, "-"] if text else words
+        wanted = runner.run(name, folder, *words, given=text.encode())[1].replace("\n\n", "\n \n")
+        equals(name, told(module, name, text, **given), (0, wanted))
+        wanted = json.loads(runner.run(name, folder, *words, "--json", given=text.encode())[1])
+        status, said = told(module, name, text, format="json", **given)
+        equals(f"{name}: JSON", (status, json.loads(said)), (0, wanted))
     equals("folders that are left", os.listdir(folder / "mgr" / "crushplan"), [])
 
 
@@ -117,6 +151,14 @@ def refusals(runner, folder):
         ("fail", {"each": "hots"}, "crush.json has no type"),
         ("check", {"format": "xml"}, "crushplan answers plain or json, and not xml"),
         ("upmap", {}, "ceph crushplan upmap wants a file"),
+        ("plan", {}, "ceph crushplan plan wants a file"),
+        ("plan", {"given": "ceph osd out 1\nceph osd oot 2\n"}, "standard input: line 2: there is no command"),
+        ("plan", {"given": f"ceph osd out 1\n{NEW_MAP}\n"}, f"line 2 ('{NEW_MAP}') can't be followed here: "),
+        ("plan", {"given": f"{NEW_MAP.replace('new.bin', '/etc/passwd')}\n"}, "line 1 ('ceph osd setcrushmap -i "),
+        ("plan", {"given": RUNBOOK, "rate": "fast"}, "argument --rate: 'fast' isn't a number above 0"),
+        ("balance", {"names": ["phots"]}, "there is no pool"),
+        ("balance", {"moves": "3", "deviation": "2"}, "argument --moves: not allowed with argument --deviation"),
+        ("balance", {"names": [option]}, "there is no pool"),
     ):
         for form in ({}, {"format": "json"}):
             status, said = told(module, command, **{**form, **words})
@@ -282,18 +324,99 @@ def runs_of_others(runner, folder):
             wants(wanted in str(fault), str(fault))
 
 
+def cut_short(runner, folder):
+    """A search that is told to end gives what it found; another command has no answer."""
+    writes = "trap 'echo interrupted: 3 copies so far; exit 1' INT; while :; do sleep 0.1; done"
+    found = Runs(scripted(folder, "search", writes)).run(["balance"], 1)
+    equals("a search", found, "interrupted: 3 copies so far\n")
+    for ends in ("exit 130", "trap - INT; kill -INT $$"):
+        path = scripted(folder, "other", f"trap '{ends}' INT; while :; do sleep 0.1; done")
+        try:
+            Runs(path).run(["drain"], 1)
+            wants(False, f"{ends} is answered")
+        except NoAnswer as fault:
+            equals(ends, str(fault), "unknown: crushplan hasn't answered within 1 seconds")
+
+
+def of_release(number):
+    """Returns the map and the pools of a cluster as a release dumps them: rules without sizes from
+    17 on, set primaries from 18 on, MSR rules from 19 on."""
+    crush, osd = crush_dump(alg="straw2", root="straw2"), osd_dump()
+    if number >= 17:
+        crush["rules"] = [{key: it for key, it in of.items() if key not in RULE_FIELDS} for of in crush["rules"]]
+    if number >= 18:
+        osd["pg_upmap_primaries"] = []
+        osd["pools"][0]["read_balance"] = {"score_type": "Fair distribution", "score_acting": 1.0}
+    if number >= 19:
+        crush["tunables"].update(msr_descents=100, msr_collision_tries=100)
+        crush["rules"].append({"rule_id": 1, "rule_name": "msr", "type": 4, "steps": MSR_STEPS})
+        osd["pools"].append(pool(2, "new", crush_rule=1))
+    return crush, osd
+
+
+def dumps_of_releases(runner, folder):
+    """What the releases 17 to 19 dump otherwise than 16 changes no answer of the module; a pool of
+    an MSR rule is left out by name."""
+    room = {"nodes": [{"id": it, "kb": 320 << 20, "kb_used": 23 << 20} for it in range(12)]}
+    told_of = {}
+    for number in (16, 17, 18, 19):
+        own = folder / str(number)
+        crush, osd = of_release(number)
+        write(own, crush, osd, df_json=usage_dump(90), osd__df_json=room)
+        with_groups(runner, own)
+        rows = json.loads((own / "pgs.json").read_text())
+        rows += [{**it, "pgid": f"2.{it['pgid'].split('.')[1]}"} for it in rows if number >= 19]
+        write(own, pgs_json=json.dumps(rows))
+        module = module_on(runner, own)
+        asked = (("check", {}), ("usage", {"pool": ["photos"], "groups": True}), ("drain", {"names": ["host1"]}))
+        told_of[number] = [json.loads(told(module, name, format="json", **words)[1]) for name, words in asked]
+        check, usage, drain = told_of[number]
+        wanted = [("photos", True), ("new", False)][: len(osd["pools"])]
+        equals(f"{number}: pools", [(it["name"], it["computed"]) for it in check["pools"]], wanted)
+        equals(f"{number}: usage", usage["groups"], told_of[16][1]["groups"])
+        equals(f"{number}: what moves", drain["pools"][0], told_of[16][2]["pools"][0])
+        equals(f"{number}: a drain", drain["status"], told_of[16][2]["status"] if number < 19 else 2)
+        wants(all("MSR rule" in it["text"] for it in check["uncomputed"]), check["uncomputed"])
+        checks = module.looked()
+        equals(f"{number}: {checks}", checks.get("CRUSHPLAN_PROGRAM", {}).get("count", 1), 1)  # 1: it is unproved
+
+
+def real_dumps(runner, folder):
+    """Dumps of real clusters of releases 18.2.7 and 20.2.4, with a set primary, an affinity, a
+    reweight and an upmap item, in 20 also with an optimized erasure code and an MSR rule: groups
+    lie as computed, the pool of the MSR rule is left out by name, and the module answers the
+    same."""
+    for number, names in (("18", ["photos", "archive"]), ("20", ["photos", "archive", "wide"])):
+        own = shutil.copytree(REAL / number, folder / number)
+        said = runner.said("check", own)
+        computed = [(it["name"], it["computed"]) for it in said["pools"]]
+        equals(f"{number}: pools", computed, [(it, it != "wide") for it in names])
+        equals(
+            f"{number}: uncomputed", ["MSR rule" in it["text"] for it in said["uncomputed"]], [True] * len(names[2:])
+        )
+        lying = {name: said["lying"][name] for name in ("groups", "same", "silent", "others")}
+        equals(f"{number}: groups", lying, {"groups": 64, "same": 64, "silent": [], "others": []})
+        module = module_on(runner, own)
+        equals(f"{number}: by the module", json.loads(told(module, "check", format="json")[1])["lying"], said["lying"])
+        checks = module.looked()
+        equals(f"{number}: {checks}", checks.get("CRUSHPLAN_PROGRAM", {}).get("count", 1), 1)  # 1: it is unproved
+
+
 def releases(runner, folder):
     """The module and crushplan's parts are of Python 3.9, which the managers of release 17 have."""
     for it in (MODULE, *(PLAN.parent / "crushplan_parts").glob("*.py")):
         ast.parse(it.read_text(), feature_version=(3, 9))
     declared = [it["cmd"] for it in loaded().Module.COMMANDS]
-    equals("commands", [it.split()[1] for it in declared], ["check", "drain", "fail", "usage", "locate", "upmap"])
+    names = ["check", "drain", "fail", "usage", "locate", "upmap", "plan", "balance"]
+    equals("commands", [it.split()[1] for it in declared], names)
     wants(all(it["perm"] == "r" and it["desc"] for it in loaded().Module.COMMANDS), "a command that may write")
+    base = types.SimpleNamespace(make_registry_subtype=lambda name: types.SimpleNamespace(COMMANDS={}))
+    equals("in release 20", loaded(CLICommandBase=base).Module.CLICommand.COMMANDS, {})
 
 
 def cases():
     own = (
         commands, refusals, bad_programs, differing_program, hanging_program, ended, no_disk, looks, many_looks,
-        runs_of_others, releases,
+        runs_of_others, cut_short, dumps_of_releases, real_dumps, releases,
     )  # fmt: skip
     return [(it.__name__, it) for it in own]

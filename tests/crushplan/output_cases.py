@@ -23,8 +23,12 @@ def usual(folder):
 def words_of(folder):
     """A call of each command that computes."""
     return (
-        ("check", folder), ("usage", folder), ("usage", folder, "--by", "host"), ("usage", folder, "--groups"), ("compare", folder, folder / "crush.json"), ("compare", folder, folder / "crush.json", "--groups"), ("drain", folder, "host0"),
-        ("drain", folder, "host0", "--groups"), ("fail", folder, "host0"), ("fail", folder, "host0", "--groups"), ("fail", folder, "--each", "host"), ("balance", folder), ("upmap", folder, folder / "list"), ("locate", folder, "photos", "a", "b"), ("locate", folder, "--group", "1.1f", "--group", "2.0"),
+        ("check", folder), ("usage", folder), ("usage", folder, "--by", "host"), ("usage", folder, "--groups"),
+        ("compare", folder, folder / "crush.json"), ("compare", folder, folder / "crush.json", "--groups"),
+        ("drain", folder, "host0"), ("drain", folder, "host0", "--groups"),
+        ("fail", folder, "host0"), ("fail", folder, "host0", "--groups"),
+        ("fail", folder, "--each", "host"), ("balance", folder), ("upmap", folder, folder / "list"),
+        ("locate", folder, "photos", "a", "b"), ("locate", folder, "--group", "1.1f", "--group", "2.0"),
     )  # fmt: skip
 
 
@@ -52,7 +56,9 @@ def documented(runner, folder):
     usual(folder)
     words = set(re.findall(r"`([a-z_0-9]+)`", (PLAN.parent.parent / "docs" / "CRUSHPLAN.md").read_text()))
     for it in words_of(folder):
-        missing = sorted(name for name in fields_in(runner.said(*it)) if not {name, re.sub("_(before|after)$", "", name)} & words)
+        missing = sorted(
+            name for name in fields_in(runner.said(*it)) if not {name, re.sub("_(before|after)$", "", name)} & words
+        )
         equals(f"{it[0]}: fields that the page lacks", missing, [])
 
 
@@ -69,10 +75,22 @@ def fields_in(value):
 def rows(runner, folder):
     """The rows of a CSV are those of the JSON."""
     usual(folder)
-    said, read = runner.said("usage", folder), list(csv.DictReader(io.StringIO(runner.run("usage", folder, "--csv")[1])))
-    equals("usage", [(it["name"], int(it["copies"]), float(it["share"])) for it in read], [(it["name"], it["copies"], it["share"]) for it in said["rows"]])
-    said, read = runner.said("drain", folder, "host0", "--groups"), list(csv.DictReader(io.StringIO(runner.run("drain", folder, "host0", "--groups", "--csv")[1])))
-    equals("groups", [(it["id"], it["before"], it["after"]) for it in read], [(it["id"], " ".join(map(str, it["before"])), " ".join(map(str, it["after"]))) for it in said["groups"]])
+    said, read = runner.said("usage", folder), list(
+        csv.DictReader(io.StringIO(runner.run("usage", folder, "--csv")[1]))
+    )
+    equals(
+        "usage",
+        [(it["name"], int(it["copies"]), float(it["share"])) for it in read],
+        [(it["name"], it["copies"], it["share"]) for it in said["rows"]],
+    )
+    said, read = runner.said("drain", folder, "host0", "--groups"), list(
+        csv.DictReader(io.StringIO(runner.run("drain", folder, "host0", "--groups", "--csv")[1]))
+    )
+    equals(
+        "groups",
+        [(it["id"], it["before"], it["after"]) for it in read],
+        [(it["id"], " ".join(map(str, it["before"])), " ".join(map(str, it["after"]))) for it in said["groups"]],
+    )
 
 
 def on_terminal(words, environment, columns=80):
@@ -83,7 +101,13 @@ def on_terminal(words, environment, columns=80):
     import termios
 
     fcntl.ioctl(follower, termios.TIOCSWINSZ, struct.pack("HHHH", 40, columns, 0, 0))
-    ran = subprocess.Popen([sys.executable, str(PLAN), *map(str, words)], stdin=subprocess.DEVNULL, stdout=follower, stderr=follower, env=environment)
+    ran = subprocess.Popen(
+        [sys.executable, str(PLAN), *map(str, words)],
+        stdin=subprocess.DEVNULL,
+        stdout=follower,
+        stderr=follower,
+        env=environment,
+    )
     os.close(follower)
     found = b""
     while select.select([leader], [], [], SECONDS)[0]:
@@ -108,7 +132,9 @@ def terminals(runner, folder):
     """On a terminal there are colours, but not with NO_COLOR; tables are as wide as the terminal;
     and a failure of each host in turn shows how far it is."""
     usual(folder)
-    environment = {name: value for name, value in runner.environment.items() if name not in ("NO_COLOR", "COLUMNS", "LINES")}
+    environment = {
+        name: value for name, value in runner.environment.items() if name not in ("NO_COLOR", "COLUMNS", "LINES")
+    }
     environment["TERM"] = "xterm"
     said = without_waiting(on_terminal(("drain", folder, "host0"), environment))
     wants(said.startswith("\033[32myes:"), f"no colour: {said[:60]!r}")
@@ -116,8 +142,13 @@ def terminals(runner, folder):
     wants(said.startswith("yes:") and "\033" not in said, f"a colour: {said[:60]!r}")
     narrow = without_waiting(on_terminal(("usage", folder), {**environment, "NO_COLOR": "1"}, 50))
     wants(max(len(it) for it in narrow.splitlines() if it.startswith("  ")) <= 50, "a table is wider than the terminal")
-    narrow = without_waiting(on_terminal(("drain", folder, "host0"), {**environment, "NO_COLOR": "1"}, 72)).split("Copies before")[0]
-    wants(max(len(it) for it in narrow.splitlines() if it.startswith("  ")) <= 72, f"the summary is wider than the terminal: {narrow}")
+    narrow = without_waiting(on_terminal(("drain", folder, "host0"), {**environment, "NO_COLOR": "1"}, 72)).split(
+        "Copies before"
+    )[0]
+    wants(
+        max(len(it) for it in narrow.splitlines() if it.startswith("  ")) <= 72,
+        f"the summary is wider than the terminal: {narrow}",
+    )
     whole = runner.run("drain", folder, "host0")[1].split("Copies before")[0]
     equals("the summary's words on a narrow terminal", sorted(narrow.split()), sorted(whole.split()))
     said = on_terminal(("fail", folder, "--each", "host"), environment)
@@ -160,11 +191,21 @@ def helps(runner, folder):
         example = re.search(r"^example: crushplan (.*)$", text, re.M)
         wants(example and example[1].split()[0] == name, f"{name} --help has no example")
         for option in re.findall(r"--[a-z-]+", example[1]):
-            wants(option in text.split("example: ")[0] or option == "--cluster", f"{name}: the example has {option}, which its help hasn't")
+            wants(
+                option in text.split("example: ")[0] or option == "--cluster",
+                f"{name}: the example has {option}, which its help hasn't",
+            )
 
 
 # the files of the help's examples, as they are made here
-EXAMPLE_FILES = {"july": "july", "mended.txt": "mended.txt", "new.txt": "new.txt", "commands.sh": "july/list", "july.prom": "july.prom", "runbook": "runbook"}
+EXAMPLE_FILES = {
+    "july": "july",
+    "mended.txt": "mended.txt",
+    "new.txt": "new.txt",
+    "commands.sh": "july/list",
+    "july.prom": "july.prom",
+    "runbook": "runbook",
+}
 
 
 def examples(runner, folder):
@@ -186,7 +227,9 @@ def examples(runner, folder):
         wants(code in (0, 1) and out and not err, f"{it}: {code} {err}")
     for name in COMMANDS[1:]:
         words = re.search(r"^example: crushplan (.*)$", runner.run(name, "--help")[1], re.M)[1].split()
-        code, out, err = runner.run(*(str(folder / EXAMPLE_FILES[it]) if it in EXAMPLE_FILES else it.replace("osd.17", "osd.1") for it in words))
+        code, out, err = runner.run(
+            *(str(folder / EXAMPLE_FILES[it]) if it in EXAMPLE_FILES else it.replace("osd.17", "osd.1") for it in words)
+        )
         wants(code in (0, 1) and out and not err, f"{words}: {code} {err}")
     wants(text_of(crush_dump()) != (folder / "mended.txt").read_text() != "", "check --mend wrote no other text")
 
@@ -195,11 +238,33 @@ def completion(runner, folder):
     """The completion of bash knows the commands and their options."""
     script = PLAN.parent / "crushplan.bash"
     for name in COMMANDS:
-        asked = f"source {script}; COMP_WORDS=(crushplan {name} --); COMP_CWORD=2; _crushplan; printf '%s\\n' \"${{COMPREPLY[@]}}\""
+        asked = (
+            f"source {script}; COMP_WORDS=(crushplan {name} --); COMP_CWORD=2; _crushplan; printf '%s\\n'"
+            ' "${COMPREPLY[@]}"'
+        )
         said = subprocess.run(["bash", "-c", asked], stdout=subprocess.PIPE, check=True).stdout.decode().split()
-        wanted = {it for it in re.findall(r"--[a-z-]+", runner.run(name, "--help")[1].split("example: ")[0].split("options:")[1]) if it not in ("--crushtool",)}
+        wanted = {
+            it
+            for it in re.findall(r"--[a-z-]+", runner.run(name, "--help")[1].split("example: ")[0].split("options:")[1])
+            if it not in ("--crushtool",)
+        }
         equals(f"options of {name}", {*said} | {"--help"}, wanted | {"--help"})
-    said = subprocess.run(["bash", "-c", f"source {script}; COMP_WORDS=(crushplan ''); COMP_CWORD=1; _crushplan; printf '%s\\n' \"${{COMPREPLY[@]}}\""], stdout=subprocess.PIPE, check=True).stdout.decode().split()
+    said = (
+        subprocess.run(
+            [
+                "bash",
+                "-c",
+                (
+                    f"source {script}; COMP_WORDS=(crushplan ''); COMP_CWORD=1; _crushplan; printf '%s\\n'"
+                    ' "${COMPREPLY[@]}"'
+                ),
+            ],
+            stdout=subprocess.PIPE,
+            check=True,
+        )
+        .stdout.decode()
+        .split()
+    )
     equals("commands", {it for it in said if not it.startswith("-")}, {*COMMANDS, "help"})
 
 
@@ -227,16 +292,25 @@ def fetched(runner, folder):
         it.chmod(0o755)
     code, out, err = runner.run("fetch", folder / "new", "--ceph", ceph, "--crushtool", crushtool)
     equals("status", (code, err), (0, ""))
-    equals("files", sorted(os.listdir(folder / "new")), ["crush.json", "df.json", "map.txt", "osd-df.json", "osd.json", "pgs.json"])
+    equals(
+        "files",
+        sorted(os.listdir(folder / "new")),
+        ["crush.json", "df.json", "map.txt", "osd-df.json", "osd.json", "pgs.json"],
+    )
     equals("osd.json", (folder / "new" / "osd.json").read_bytes(), (folder / "osd.json").read_bytes())
     equals("the folder is read", runner.said("check", folder / "new")["status"], 0)
     ceph.write_text(FAKE.format(folder=folder, osd_df="echo no manager >&2; exit 1"))
     code, out, _ = runner.run("fetch", folder / "other", "--ceph", ceph, "--crushtool", folder / "none")
-    wants(code == 0 and "osd-df.json isn't written" in out and "no manager" in out and "map.txt isn't written" in out, out)
+    wants(
+        code == 0 and "osd-df.json isn't written" in out and "no manager" in out and "map.txt isn't written" in out, out
+    )
     ceph.write_text("#!/bin/sh\necho no monitor >&2; exit 1\n")
     runner.refused("fetch", folder / "third", "--ceph", ceph, has=("osd dump -f json failed: no monitor",))
     runner.refused("fetch", folder / "third", "--ceph", folder / "nowhere", has="isn't there")
 
 
 def cases():
-    return [(it.__name__, it) for it in (forms, documented, rows, terminals, last_column, helps, examples, completion, fetched)]
+    return [
+        (it.__name__, it)
+        for it in (forms, documented, rows, terminals, last_column, helps, examples, completion, fetched)
+    ]

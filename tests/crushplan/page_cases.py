@@ -21,7 +21,16 @@ class Page(html.parser.HTMLParser):
 
     def __init__(self, text):
         super().__init__()
-        self.open, self.sentence, self.kind, self.title, self.text, self.tables, self.bars, self.lists = [], "", None, "", "", {}, {}, {}
+        self.open, self.sentence, self.kind, self.title, self.text, self.tables, self.bars, self.lists = (
+            [],
+            "",
+            None,
+            "",
+            "",
+            {},
+            {},
+            {},
+        )
         self.feed(text)
         self.close()
         equals("elements that are left open", self.open, [])
@@ -96,7 +105,14 @@ def page_of(runner, folder, *words):
 def usual(folder, **files):
     crush = crush_dump()
     used = entries(Placed(text_of(crush), **PHOTOS))
-    return write(folder, crush, osd_dump(), df_json=df("photos"), osd__df_json=osd_df(used, {it: 32_000_000 for it in range(12)}), **files)
+    return write(
+        folder,
+        crush,
+        osd_dump(),
+        df_json=df("photos"),
+        osd__df_json=osd_df(used, {it: 32_000_000 for it in range(12)}),
+        **files,
+    )
 
 
 def changed(runner, folder):
@@ -110,7 +126,11 @@ def changed(runner, folder):
         name = next(it["name"] for it in rows if it["used_after"] == most)
         equals("the longest bar", page.bars[name][2]["new"], round(most * 100, 2))
         table = page.rows("Copies before and after, by device")
-        equals(f"{words}: the table", [(it["device"], it["host"], int(it["before"]), int(it["after"])) for it in table], [(it["name"], it["host"], it["copies_before"], it["copies_after"]) for it in rows])
+        equals(
+            f"{words}: the table",
+            [(it["device"], it["host"], int(it["before"]), int(it["after"])) for it in table],
+            [(it["name"], it["host"], it["copies_before"], it["copies_after"]) for it in rows],
+        )
         near = [abs(float(it["used %"]) - of["used_after"] * 100) for it, of in zip(table, rows)]
         wants(max(near) < 0.06, f"{words}: used: {near}")
         wants(f"{of(said)['moved']} of 64" in page.text, "groups that move")
@@ -119,10 +139,15 @@ def changed(runner, folder):
     by_host = collections.Counter()
     for it in said["usage"]:
         by_host.update({(it["host"], 0): it["copies_before"], (it["host"], 1): it["copies_after"]})
-    equals("by host", page.numbers(), {f"host{it}": (by_host[f"host{it}", 0], by_host[f"host{it}", 1]) for it in range(4)})
+    equals(
+        "by host", page.numbers(), {f"host{it}": (by_host[f"host{it}", 0], by_host[f"host{it}", 1]) for it in range(4)}
+    )
     equals("its longest bar", max(max(it[2].values()) for it in page.bars.values()), 100)
     unproved = folder / "unproved"
-    unproved.write_text(f'#!/bin/sh\n[ "$1" = --version ] && {{ echo "crushcalc 0.1.0 (unproved)"; exit; }}\nexec {runner.program} "$@"\n')
+    unproved.write_text(
+        '#!/bin/sh\n[ "$1" = --version ] && { echo "crushcalc 0.1.0 (unproved)"; exit; }\nexec'
+        f' {runner.program} "$@"\n'
+    )
     unproved.chmod(0o755)
     page, _ = page_of(runner, folder, "drain", folder, "osd.1", "--program", unproved)
     wants("crushcalc 0.1.0 (unproved)" in page.text, page.text[:300])
@@ -139,7 +164,11 @@ def in_turn(runner, folder):
     page, said = page_of(runner, folder, "fail", folder, "--each", "host")
     equals("bars", page.numbers(), {it["name"]: (None, it["fullest"]["used_after"]) for it in said["each"]})
     table = page.rows("")
-    equals("the table", [(it["host"], int(it["move"]), int(it["copies"])) for it in table], [(it["name"], it["moved"], it["copies"]) for it in said["each"]])
+    equals(
+        "the table",
+        [(it["host"], int(it["move"]), int(it["copies"])) for it in table],
+        [(it["name"], it["moved"], it["copies"]) for it in said["each"]],
+    )
 
 
 def lying(runner, folder):
@@ -165,12 +194,20 @@ def on_paper(runner, folder):
     page, said = page_of(runner, folder, "compare", folder, folder / "new.txt")
     old, new = entries(Placed(text_of(crush_dump()), **PHOTOS)), entries(Placed(text_of(wider), **PHOTOS))
     equals("compare", page.numbers(), {f"osd.{it}": (old[it], new[it]) for it in range(15)})
-    equals("hosts", [(it["host"], int(it["lost"]), int(it["gained"])) for it in page.rows("Copies lost and gained, by host")], [(it["name"], it["lost"], it["gained"]) for it in said["hosts"]])
+    equals(
+        "hosts",
+        [(it["host"], int(it["lost"]), int(it["gained"])) for it in page.rows("Copies lost and gained, by host")],
+        [(it["name"], it["lost"], it["gained"]) for it in said["hosts"]],
+    )
     first, second, third = Placed(text_of(crush_dump()), **PHOTOS).raw[9]
     near = next(it for it in range(first // 3 * 3, first // 3 * 3 + 3) if it != first)
     (folder / "list").write_text(f"ceph osd pg-upmap-items 1.9 {first} {near}\n")
     page, said = page_of(runner, folder, "upmap", folder, folder / "list")
-    equals("upmap", {name: bar[0] < bar[1] for name, bar in page.numbers().items()}, {f"osd.{first}": False, f"osd.{near}": True})
+    equals(
+        "upmap",
+        {name: bar[0] < bar[1] for name, bar in page.numbers().items()},
+        {f"osd.{first}": False, f"osd.{near}": True},
+    )
     equals("its groups", [(it["group"], it["after"]) for it in page.rows("")], [("1.9", f"[{near},{second},{third}]")])
 
 
@@ -179,7 +216,13 @@ def not_computed(runner, folder):
     crush = crush_dump(root="straw")
     write(folder, crush, osd_dump())
     (folder / "new.json").write_bytes((folder / "crush.json").read_bytes())
-    for words in (("drain", folder, "host0"), ("compare", folder, folder / "new.json"), ("usage", folder), ("check", folder), ("fail", folder, "--each", "host")):
+    for words in (
+        ("drain", folder, "host0"),
+        ("compare", folder, folder / "new.json"),
+        ("usage", folder),
+        ("check", folder),
+        ("fail", folder, "--each", "host"),
+    ):
         page, said = page_of(runner, folder, *words)
         equals(f"{words}: bars", page.bars, {})
         wants("set-all-straw-buckets-to-straw2" in page.lists["Not computed"][0], page.lists)
@@ -203,13 +246,22 @@ def whole(runner, folder):
     path = folder / "page.html"
     path.write_text("what was there")
     runner.refused("drain", folder, "nothing", "--html", path, has="no host, rack or device 'nothing'")
-    command = f"ulimit -f 4; exec {' '.join(runner.command)} drain {folder} host0 --html {path}"
+    command = f"ulimit -f 16; exec {' '.join(runner.command)} drain {folder} host0 --html {path}"
     ran = subprocess.run(["sh", "-c", command], stdout=subprocess.PIPE, stderr=subprocess.PIPE, env=runner.environment)
     equals("a file that may not be so large", (ran.returncode, ran.stdout), (2, b""))
     wants(f"crushplan: --html {path}: File too large\n" == ran.stderr.decode(), ran.stderr)
-    for target, words in ((folder / "none" / "page.html", "No such file or directory"), (folder, "it is there, and isn't a file"), ("/dev/null", "it is there, and isn't a file"), ("-", "it is written into a file")):
+    for target, words in (
+        (folder / "none" / "page.html", "No such file or directory"),
+        (folder, "it is there, and isn't a file"),
+        ("/dev/null", "it is there, and isn't a file"),
+        ("-", "it is written into a file"),
+    ):
         runner.refused("drain", folder, "host0", "--html", target, has=(f"--html {target}", words))
-    equals("what was there", (path.read_text(), [it for it in os.listdir(folder) if it.endswith("part")]), ("what was there", []))
+    equals(
+        "what was there",
+        (path.read_text(), [it for it in os.listdir(folder) if it.endswith("part")]),
+        ("what was there", []),
+    )
     link = folder / "link.html"
     link.symlink_to("page.html")
     text = runner.run("drain", folder, "host0", "--html", link)[1]

@@ -17,7 +17,7 @@ from crushplan_parts.runbook import Line
 from crushplan_parts.service import Script
 from crushplan_parts.wrapper import Unforetold
 from dumped import changed, plain
-from made import ONE, crush_dump, osd_dump, pool, text_of, write
+from made import ONE, bucket, crush_dump, osd_dump, pool, text_of, write
 from model.placed import Placed
 from running import equals, wants
 
@@ -121,13 +121,79 @@ def refused(runner, folder):
     )
     equals("what decides", (said["decides"]["step"], said["decides"]["lines"]), (2, [3, 4]))
     equals("the steps", len(said["steps"]), 2)
+    equals("behind it", said["unfollowed"], [6])
     lies = placed(crush, {0: 0}), placed(weighed(crush, {7: 3 * ONE}), {0: 0})
     equals("up to there", groups(said["steps"][1]), moved(*lies))
     text = runner.run("plan", folder, path)[1]
-    wants("Copies after step 2 (lines 3-4)" in text and "What decides is step 2 (lines 3-4):" in text, text)
+    wants("Copies where line 4 is refused:" in text and "What decides is step 2 (lines 3-4):" in text, text)
     entries = lies[1].entries()
-    row = next(it.split() for it in text.split("Copies after step 2")[1].splitlines() if it.split()[:1] == ["osd.7"])
+    row = next(it.split() for it in text.split("Copies where line 4")[1].splitlines() if it.split()[:1] == ["osd.7"])
     equals("a device there", row[:4], ["osd.7", "host2", str(placed(crush).entries()[7][1]), str(entries[7][1])])
+    # a step of which nothing is done has no numbers, and one of which a part is says which
+    row = next(it.split() for it in text.split("By step")[1].splitlines() if "refused" in it)
+    equals("its row", row[:4], ["2", "3,", "4", "refused"])
+    text = runner.run("plan", folder, runbook(folder, "ceph osd out 0", "wait", "ceph osd purge 0 --force", "wait"))[1]
+    row = next(it.split() for it in text.split("By step")[1].splitlines() if "refused" in it)
+    equals("nothing of it is done", row, ["2", "3", "refused", *"-" * 9])
+    csv = runner.run("plan", folder, folder / "runbook", "--csv")[1].splitlines()
+    equals("nor in CSV", csv[-1], "2,3,3,,,,,,,,,,,,,3")
+    lines = "ceph osd out 0; ceph osd purge 0 --force; ceph osd out 1", "wait", "ceph osd out 2", "ceph osd out 3"
+    said = runner.said("plan", folder, runbook(folder, *lines), status=1)
+    equals("behind it, in its line and others", said["unfollowed"], [1, 3, 4])
+
+
+def with_line(runner, folder):
+    """Line 4 of 6 leaves two hosts for three copies: it is named, with how devices look there."""
+    crush = crush_dump()
+    write(folder, crush, osd_dump())
+    path = runbook(
+        folder,
+        "ceph osd crush reweight osd.7 3",
+        "ceph osd out 0 1 2",
+        "ceph osd reweight 9 0.5",
+        "ceph osd out 3 4 5",
+        "ceph osd reweight 9 0.75",
+        "ceph osd crush reweight osd.7 1",
+    )
+    said = runner.said("plan", folder, path, "--groups", status=1)
+    equals("the answer", said["answer"], "no: step 1 (lines 1-6), with line 4: 64 copies have no device.")
+    equals("the line", said["decides"]["line"], 4)
+    there = placed(weighed(crush, {7: 3 * ONE}), {**dict.fromkeys(range(6), 0), 9: ONE // 2}).entries()
+    rows = [it.split() for it in runner.run("plan", folder, path)[1].split("Copies with line 4:")[1].splitlines()]
+    counts = {it[0]: int(it[3]) for it in rows if it[:1] and it[0].startswith("osd.")}
+    equals("the cluster there", counts, {f"osd.{it}": there[it][1] for it in range(12)})
+
+
+def meanwhile(runner, folder):
+    """Groups whose copies are gone before others are made: with a 'wait' in between there are
+    none; OSDs that are down one after the other are never missed together."""
+    crush = crush_dump()
+    write(folder, crush, osd_dump())
+    up = placed(crush).up
+    with_any = lambda *own: [f"1.{group:x}" for group, it in enumerate(up) if set(it) & set(own)]
+    lines = ["ceph osd out 0", "systemctl stop ceph-osd@0", "ceph osd purge 0 --yes-i-really-mean-it"]
+    said = runner.said("plan", folder, runbook(folder, *lines), status=0)
+    equals("short", (said["short_meanwhile"], said["fewest_meanwhile"]), (with_any(0), 2))
+    equals("by step", said["steps"][0]["short_meanwhile"], with_any(0))
+    (remark,) = said["steps"][0]["remarks"]
+    wants(remark.startswith(f"from line 2 on {len(with_any(0))} groups ("), remark)
+    wants(remark.endswith("; with a 'wait' before line 2 they move first"), remark)
+    wants(said["answer"].endswith("have fewer copies."), said["answer"])
+    text = runner.run("plan", folder, folder / "runbook")[1]
+    wants(
+        f"from line 2 on {len(with_any(0))} groups (" in text and "with a 'wait' before line 2 they move" in text, text
+    )
+    said = runner.said("plan", folder, runbook(folder, lines[0], "wait", *lines[1:]), status=0)
+    equals("with a wait", (said["short_meanwhile"], said["fewest_meanwhile"]), ([], None))
+    wants("meanwhile" not in said["answer"], said["answer"])
+    turn = [f"systemctl {word} ceph-osd@{it}" for it in (0, 3) for word in ("stop", "start")]
+    said = runner.said("plan", folder, runbook(folder, *turn), status=0)
+    equals("in turn", (said["short_meanwhile"], said["fewest_meanwhile"]), (with_any(0, 3), 2))
+    wants("with a 'wait'" not in runner.run("plan", folder, folder / "runbook")[1], "a wait wouldn't help")
+    said = runner.said("plan", folder, runbook(folder, turn[0], turn[2], turn[1], turn[3]), status=1)
+    stopped = [f"1.{group:x}" for group, it in enumerate(up) if {0, 3} <= set(it)]
+    equals("together", (said["fewest_meanwhile"], said["below_min_size"]), (1, stopped))
+    wants("from line 2 on " in said["answer"] and "which stops I/O" in said["answer"], said["answer"])
 
 
 def broken(runner, folder):
@@ -211,6 +277,9 @@ def room(runner, folder):
     busiest = max(written[it] + read[it] for it in used)
     equals("hours", step["hours"], round(busiest * GIB / 100e6 / 3600, 2))
     equals("bytes", step["bytes"], sum(written.values()) * GIB)
+    ratios = {"nearfull_ratio": 0.85, "backfillfull_ratio": 0.9}
+    equals("rate and ratios", (said["rate"], said["ratios"]), (100.0, ratios))
+    equals("without a rate", runner.said("plan", folder, path, status=0)["rate"], None)
     wants("every copy has room" in said["answer"], said["answer"])
     osd = osd_dump()
     osd["backfillfull_ratio"] = 0.02
@@ -256,6 +325,29 @@ def stops(runner, folder):
     equals("what is lost", said["steps"][0]["lost"], lost)
     said = runner.said("plan", folder, runbook(folder, "ceph osd down 0 1 2 3 4 5"), status=0)
     wants("are up again in a second" in said["steps"][0]["events"][0]["remarks"][0], said["steps"][0]["events"])
+
+
+def whole_rack(runner, folder):
+    """OSDs of a rack of which all are down stay in, and those of another go out."""
+    crush = crush_dump()
+    root, hosts = crush["buckets"][0], crush["buckets"][1:]
+    racks = [
+        bucket(-10 - at, f"rack{at}", 3, "list", [(it["id"], 3 * ONE) for it in own])
+        for at, own in enumerate((hosts[:2], hosts[2:]))
+    ]
+    root["items"] = [{"id": it["id"], "weight": 6 * ONE, "pos": at} for at, it in enumerate(racks)]
+    crush["buckets"] += racks
+    write(folder, crush, osd_dump(pools=[pool(1, "photos", size=2, min_size=1)]))
+    path = runbook(folder, "systemctl stop " + " ".join(f"ceph-osd@{it}" for it in range(7)))
+    said = runner.said("plan", folder, path)
+    equals(
+        "by itself",
+        said["steps"][0]["by_itself"],
+        [
+            "osd.0, osd.1, osd.2, osd.3, osd.4, osd.5, down for long, stay in: the whole rack is down",
+            "osd.6, down for long, goes out (mon_osd_down_out_interval)",
+        ],
+    )
 
 
 def orders(runner, folder):
@@ -392,7 +484,7 @@ def outputs(runner, folder):
     equals("a row for each group", len(rows) - 1, sum(it["moved"] for it in said["steps"]))
     runner.run("plan", folder, path, "--html", folder / "page.html")
     page = (folder / "page.html").read_text()
-    wants(said["answer"] in page and "data-name=\"osd.4\"" in page, "the page lacks the answer or a bar")
+    wants(said["answer"] in page and 'data-name="osd.4"' in page, "the page lacks the answer or a bar")
 
 
 def kept_upmaps(runner, folder):
@@ -425,10 +517,13 @@ def cases():
     for case in (
         steps,
         refused,
+        with_line,
+        meanwhile,
         broken,
         removed_later,
         room,
         stops,
+        whole_rack,
         orders,
         pools,
         unforetold,

@@ -35,7 +35,14 @@ class Runner:
         """The status, standard output and standard error. None takes away a variable of the
         environment."""
         environment = {name: value for name, value in {**self.environment, **changed}.items() if value is not None}
-        ran = subprocess.run([*self.command, *map(str, words)], input=given, stdout=subprocess.PIPE, stderr=subprocess.PIPE, env=environment, timeout=SECONDS)
+        ran = subprocess.run(
+            [*self.command, *map(str, words)],
+            input=given,
+            stdout=subprocess.PIPE,
+            stderr=subprocess.PIPE,
+            env=environment,
+            timeout=SECONDS,
+        )
         out, err = ran.stdout.decode(), ran.stderr.decode()
         wants("Traceback" not in err + out and "mistake in crushplan" not in err, f"{words} says {err[-400:]!r}")
         return ran.returncode, out, err

@@ -27,7 +27,9 @@ class Served:
         with socket.socket() as it:
             it.bind(("127.0.0.1", 0))
             self.port = it.getsockname()[1]
-        self.run = subprocess.Popen([runner.program, "serve", "--db", self.file, "--port", str(self.port)], stdout=subprocess.PIPE)
+        self.run = subprocess.Popen(
+            [runner.program, "serve", "--db", self.file, "--port", str(self.port)], stdout=subprocess.PIPE
+        )
         wants(self.run.stdout.readline().startswith(b"listening"), "the server doesn't listen")
         self.before = http.server.ThreadingHTTPServer(("127.0.0.1", 0), type("Before", (Before,), {"served": self}))
         self.url = f"http://127.0.0.1:{self.before.server_address[1]}"
@@ -109,10 +111,23 @@ class Before(http.server.BaseHTTPRequestHandler):
 
 def answers(runner, folder):
     """Each command has the same answer by a server as by the program, and leaves no tenant."""
-    write(folder, crush_dump(), osd_dump(pools=[pool(1, "photos", pg_num=32), pool(2, "mail", size=2, pg_num=8)], down=(7,)))
+    write(
+        folder,
+        crush_dump(),
+        osd_dump(pools=[pool(1, "photos", pg_num=32), pool(2, "mail", size=2, pg_num=8)], down=(7,)),
+    )
     (folder / "list").write_text("ceph osd pg-upmap-items 1.9 0 3\n")
     with Served(runner, folder) as served:
-        for words in (("drain", "host1", "--groups"), ("fail", "host1", "--groups"), ("fail", "--each", "host"), ("usage", "--groups"), ("upmap", folder / "list"), ("locate", "photos", "a", "b"), ("compare", folder / "crush.json"), ("check",)):
+        for words in (
+            ("drain", "host1", "--groups"),
+            ("fail", "host1", "--groups"),
+            ("fail", "--each", "host"),
+            ("usage", "--groups"),
+            ("upmap", folder / "list"),
+            ("locate", "photos", "a", "b"),
+            ("compare", folder / "crush.json"),
+            ("check",),
+        ):
             by_server = runner.said(words[0], folder, *words[1:], "--service", served.url)
             equals(f"{words}", by_server, runner.said(words[0], folder, *words[1:]))
             equals(f"{words}: tenants", served.tenants(), 0)

@@ -39,7 +39,9 @@ def straw2(runner, folder):
     write(folder, crush, osd_dump(15, down=(4,), weights={7: ONE // 2}))
     fields = {**PHOTOS, "down": {4}}
     before = Placed(text_of(crush), reweights={7: ONE // 2}, **fields)
-    equals("groups", lies(runner.said("usage", folder, "--groups", status=0)), dict(enumerate(zip(before.raw, before.up))))
+    equals(
+        "groups", lies(runner.said("usage", folder, "--groups", status=0)), dict(enumerate(zip(before.raw, before.up)))
+    )
     said = runner.said("drain", folder, "osd.2", "--groups", status=1)
     drained = Placed(text_of(crush), reweights={7: ONE // 2, 2: 0}, **fields)
     equals("a drain", moves(said), before.moves(drained))
@@ -47,10 +49,16 @@ def straw2(runner, folder):
     gone["buckets"][1]["items"].pop()
     gone["buckets"][0]["items"][0]["weight"] = 3 * ONE
     purged = Placed(text_of(gone), reweights={7: ONE // 2}, **fields)
-    equals("a purge", [(it["group"], it["before"], it["after"]) for it in said["purge"]["groups"]], drained.moves(purged))
+    equals(
+        "a purge", [(it["group"], it["before"], it["after"]) for it in said["purge"]["groups"]], drained.moves(purged)
+    )
     write(folder, crush=gone)
     (folder / "new.json").write_text(json.dumps(crush))
-    equals("a device more", moves(runner.said("compare", folder, folder / "new.json", "--groups")), Placed(text_of(gone), reweights={7: ONE // 2}, **fields).moves(before))
+    equals(
+        "a device more",
+        moves(runner.said("compare", folder, folder / "new.json", "--groups")),
+        Placed(text_of(gone), reweights={7: ONE // 2}, **fields).moves(before),
+    )
 
 
 def converted(runner, folder):
@@ -59,9 +67,17 @@ def converted(runner, folder):
     write(folder, uneven("list"), osd_dump(15))
     (folder / "new.json").write_text(json.dumps(uneven()))
     before, after = (Placed(text_of(uneven(it)), **PHOTOS) for it in ("list", "straw2"))
-    equals("list to straw2", moves(runner.said("compare", folder, folder / "new.json", "--groups", status=0)), before.moves(after))
+    equals(
+        "list to straw2",
+        moves(runner.said("compare", folder, folder / "new.json", "--groups", status=0)),
+        before.moves(after),
+    )
     write(folder, uneven("straw"))
-    equals("straw to straw2", runner.said("compare", folder, folder / "new.json", status=2)["answer"], "unknown: no pool can be computed.")
+    equals(
+        "straw to straw2",
+        runner.said("compare", folder, folder / "new.json", status=2)["answer"],
+        "unknown: no pool can be computed.",
+    )
     write(folder, pgs_json=brief(before))
     said = runner.said("compare", folder, folder / "new.json", "--groups", status=0)
     equals("straw to straw2 by its word", moves(said), before.moves(after))
@@ -90,14 +106,28 @@ def host_added(runner, folder):
     said = runner.said("compare", folder, folder / "straw.json", "--groups", status=2)
     equals("a straw host more", (said["answer"], said["groups"]), ("unknown: no pool can be computed.", []))
     wants("are straw buckets (host-more)" in said["uncomputed"][0]["text"], said["uncomputed"])
-    equals("its rows", runner.run("compare", folder, folder / "straw.json", "--groups", "--csv")[1], "pool,group,id,before,after,primary_before,primary_after,copies\n")
+    equals(
+        "its rows",
+        runner.run("compare", folder, folder / "straw.json", "--groups", "--csv")[1],
+        "pool,group,id,before,after,primary_before,primary_after,copies\n",
+    )
     # the other way: the devices are there, and the map lacks them
     write(folder, new, osd_dump(14))
     (folder / "old.json").write_text(json.dumps(old))
-    equals("a host less", moves(runner.said("compare", folder, folder / "old.json", "--groups", status=0)), after.moves(before))
+    equals(
+        "a host less",
+        moves(runner.said("compare", folder, folder / "old.json", "--groups", status=0)),
+        after.moves(before),
+    )
     write(folder, old)
-    runner.refused("compare", folder, folder / "new.json", has="osd.json has devices that crush.json lacks (osd.12, osd.13)")
-    equals("devices without a place", moves(runner.said("compare", folder, folder / "new.json", "--groups", "--allow-unplaced", status=0)), before.moves(after))
+    runner.refused(
+        "compare", folder, folder / "new.json", has="osd.json has devices that crush.json lacks (osd.12, osd.13)"
+    )
+    equals(
+        "devices without a place",
+        moves(runner.said("compare", folder, folder / "new.json", "--groups", "--allow-unplaced", status=0)),
+        before.moves(after),
+    )
 
 
 CLASS_IDS = {"hdd": -20, "ssd": -40}  # what the ids of buckets of a class alone are lower by
@@ -143,7 +173,9 @@ def class_changed(runner, folder):
     before, after = (with_classes(crush, it) for it in (old, new))
     for it in (before, after):
         it["rules"].append(rule(2, "all"))
-    write(folder, before, osd_dump(18, [pool(1, "disks"), pool(2, "flash", crush_rule=1), pool(3, "all", crush_rule=2)]))
+    write(
+        folder, before, osd_dump(18, [pool(1, "disks"), pool(2, "flash", crush_rule=1), pool(3, "all", crush_rule=2)])
+    )
     (folder / "new.json").write_text(json.dumps(after))
     said = runner.said("compare", folder, folder / "new.json", "--groups", status=0)
     for id_, class_ in ((1, "hdd"), (2, "ssd")):
@@ -152,7 +184,15 @@ def class_changed(runner, folder):
         wants(wanted, f"nothing of {class_} moves")
     equals("pools that move", sorted({it["pool"] for it in said["groups"]}), [1, 2])
     drained = placed_alone(crush, old, "ssd", pool=2, reweights={2: 0})
-    equals("a drain", [(it["group"], it["before"], it["after"]) for it in runner.said("drain", folder, "osd.2", "--groups")["groups"] if it["pool"] == 2], placed_alone(crush, old, "ssd", pool=2).moves(drained))
+    equals(
+        "a drain",
+        [
+            (it["group"], it["before"], it["after"])
+            for it in runner.said("drain", folder, "osd.2", "--groups")["groups"]
+            if it["pool"] == 2
+        ],
+        placed_alone(crush, old, "ssd", pool=2).moves(drained),
+    )
 
 
 def with_set(crush, rows):
@@ -175,9 +215,26 @@ def sets(runner, folder):
     for id_, rows in ((1, all_), (2, own)):
         placed = Placed(text_of(with_set(crush, rows)), **{**PHOTOS, "pool": id_})
         equals(f"pool {id_}", [it["up"] for it in said["groups"] if it["pool"] == id_], placed.up)
-        equals(f"a drain, pool {id_}", [(it["group"], it["before"], it["after"]) for it in runner.said("drain", folder, "host0", "--groups")["groups"] if it["pool"] == id_], placed.moves(Placed(text_of(with_set(crush, rows)), reweights={0: 0, 1: 0, 2: 0}, **{**PHOTOS, "pool": id_})))
-    wants("choose_args -1 of all pools (1 pool), the weight set choose_args 2 (1 pool)" in runner.run("check", folder)[1], "the sets aren't named")
-    for more, words in (({"2": args(own, [1, 1, 1, 1, 1])}, "other weights for each of 2 places"), ({"2": [{"bucket_id": -1, "ids": [-9, -8, -7, -6, -5]}]}, "has other ids for the items of default"), ({"2": args({"default": [1, 2]})}, "has 2 weights for the 5 items")):
+        equals(
+            f"a drain, pool {id_}",
+            [
+                (it["group"], it["before"], it["after"])
+                for it in runner.said("drain", folder, "host0", "--groups")["groups"]
+                if it["pool"] == id_
+            ],
+            placed.moves(
+                Placed(text_of(with_set(crush, rows)), reweights={0: 0, 1: 0, 2: 0}, **{**PHOTOS, "pool": id_})
+            ),
+        )
+    wants(
+        "choose_args -1 of all pools (1 pool), the weight set choose_args 2 (1 pool)" in runner.run("check", folder)[1],
+        "the sets aren't named",
+    )
+    for more, words in (
+        ({"2": args(own, [1, 1, 1, 1, 1])}, "other weights for each of 2 places"),
+        ({"2": [{"bucket_id": -1, "ids": [-9, -8, -7, -6, -5]}]}, "has other ids for the items of default"),
+        ({"2": args({"default": [1, 2]})}, "has 2 weights for the 5 items"),
+    ):
         write(folder, {**crush, "choose_args": more})
         said = runner.said("check", folder, status=1)
         equals(f"{words}: pools", [(it["kind"], it["pools"]) for it in said["uncomputed"]], [("weight set", [2])])
@@ -189,14 +246,21 @@ def lists(runner, folder):
     neither acts, and where one of it is lost the group moves."""
     crush = uneven()
     placed = Placed(text_of(crush), **PHOTOS)
-    free = {group: next(it for it in range(5) if it not in [device // 3 for device in placed.raw[group]]) for group in range(64)}
+    free = {
+        group: next(it for it in range(5) if it not in [device // 3 for device in placed.raw[group]])
+        for group in range(64)
+    }
     own = {group: [free[group] * 3, placed.raw[group][1], placed.raw[group][2]] for group in (3, 4, 5)}
     osd = osd_dump(15)
     osd["pg_upmap"] = [{"pgid": f"1.{group:x}", "osds": it} for group, it in own.items()]
     osd["pg_upmap_items"] = [{"pgid": "1.4", "mappings": [{"from": own[4][0], "to": own[4][0] + 1}]}]
     write(folder, crush, osd)
     wanted = {**dict(enumerate(placed.up)), **own, 4: [own[4][0] + 1, *own[4][1:]]}
-    equals("groups", {group: up for group, (_, up) in lies(runner.said("usage", folder, "--groups", status=0)).items()}, wanted)
+    equals(
+        "groups",
+        {group: up for group, (_, up) in lies(runner.said("usage", folder, "--groups", status=0)).items()},
+        wanted,
+    )
     said = runner.said("drain", folder, f"osd.{own[3][0]}", "--groups")
     drained = Placed(text_of(crush), reweights={own[3][0]: 0}, **PHOTOS)
     equals("the list of a drained device", {it["group"]: it["after"] for it in said["groups"]}[3], drained.up[3])
@@ -220,33 +284,54 @@ def primaries(runner, folder):
     """Primaries by affinity and as they are set: where groups lie, how many a device has, and what
     a drain makes of it."""
     crush = uneven()
-    crush["rules"].append(rule(1, "parts", (STEPS[0], {"op": "chooseleaf_indep", "num": 0, "type": "host"}, STEPS[2]), 3))
+    crush["rules"].append(
+        rule(1, "parts", (STEPS[0], {"op": "chooseleaf_indep", "num": 0, "type": "host"}, STEPS[2]), 3)
+    )
     osd = osd_dump(15, [pool(1, "photos"), pool(2, "parts", type=3, crush_rule=1)])
     affinity = {0: 0, 1: ONE // 2, 5: 100, 8: 0, 9: 0}
     for device, it in affinity.items():
         osd["osds"][device]["primary_affinity"] = it / ONE
     write(folder, crush, osd)
     for words, reweights in (((), {}), (("drain", "host2"), {6: 0, 7: 0, 8: 0})):
-        said = runner.said("usage", folder, "--groups") if not words else runner.said("drain", folder, "host2", "--groups")
+        said = (
+            runner.said("usage", folder, "--groups") if not words else runner.said("drain", folder, "host2", "--groups")
+        )
         found, counts = {}, {}
         for id_, erasure in ((1, False), (2, True)):
-            placed = Placed(text_of(crush), reweights=reweights, rule=id_ - 1, erasure=erasure, **{**PHOTOS, "pool": id_})
-            found.update({(id_, group): led(id_, group, up, affinity, not erasure) for group, up in enumerate(placed.up)})
+            placed = Placed(
+                text_of(crush), reweights=reweights, rule=id_ - 1, erasure=erasure, **{**PHOTOS, "pool": id_}
+            )
+            found.update(
+                {(id_, group): led(id_, group, up, affinity, not erasure) for group, up in enumerate(placed.up)}
+            )
         for _, first in found.values():
             counts[first] = counts.get(first, 0) + 1
         if not words:
             equals("groups", {(it["pool"], it["group"]): (it["up"], it["primary"]) for it in said["groups"]}, found)
             equals("primaries", {it["device"]: it["primaries"] for it in said["rows"] if it["primaries"]}, counts)
         else:
-            equals("after a drain", {(it["pool"], it["group"]): (it["after"], it["primary_after"]) for it in said["groups"]}, {key: it for key, it in found.items() if key in {(it["pool"], it["group"]) for it in said["groups"]}})
-            equals("its primaries", {it["device"]: it["primaries_after"] for it in said["usage"] if it["primaries_after"]}, counts)
+            equals(
+                "after a drain",
+                {(it["pool"], it["group"]): (it["after"], it["primary_after"]) for it in said["groups"]},
+                {key: it for key, it in found.items() if key in {(it["pool"], it["group"]) for it in said["groups"]}},
+            )
+            equals(
+                "its primaries",
+                {it["device"]: it["primaries_after"] for it in said["usage"] if it["primaries_after"]},
+                counts,
+            )
     plain = osd_dump(15)
     up = Placed(text_of(crush), **PHOTOS).up[9]
     plain["pg_upmap_primaries"] = [{"pgid": "1.9", "primary_osd": up[2]}, {"pgid": "1.a", "primary_osd": 99}]
     write(folder, osd=plain)
     it = runner.said("locate", folder, "--group", "1.9", status=0)["groups"][0]
     equals("a set primary", (it["up"], it["primary"]), ([up[2], up[1], up[0]], up[2]))
-    it = runner.said("upmap", folder, commands(folder, f"ceph osd rm-pg-upmap-primary 1.9;\nceph osd pg-upmap-primary 1.9 {up[1]} &\n"), status=0)["groups"][0]
+    it = runner.said(
+        "upmap",
+        folder,
+        commands(folder, f"ceph osd rm-pg-upmap-primary 1.9;\nceph osd pg-upmap-primary 1.9 {up[1]} &\n"),
+        status=0,
+    )["groups"][0]
     equals("another one", (it["after"], it["primary_after"], it["copies"]), ([up[1], up[0], up[2]], up[1], 0))
 
 
@@ -258,15 +343,37 @@ def commands(folder, text):
 def mixed_list(runner, folder):
     """A list of commands that names a pool which isn't computed: the others are answered."""
     write(folder, uneven(), osd_dump(15, [pool(1, "photos"), pool(2, "odd", crush_rule=9)]))
-    said = runner.said("upmap", folder, commands(folder, "ceph osd pg-upmap-items 2.1 0 3 ;\nceph osd rm-pg-upmap-items 1.1\n"), status=2)
-    equals("the answer", said["answer"], "unknown: 0 groups move, and 0 copies are written anew; of pool odd nothing is computed.")
-    equals("groups", ([it["id"] for it in said["groups"]], [it["groups"] for it in said["uncomputed"] if it["kind"] == "upmap"]), (["1.1"], [["2.1"]]))
+    said = runner.said(
+        "upmap",
+        folder,
+        commands(folder, "ceph osd pg-upmap-items 2.1 0 3 ;\nceph osd rm-pg-upmap-items 1.1\n"),
+        status=2,
+    )
+    equals(
+        "the answer",
+        said["answer"],
+        "unknown: 0 groups move, and 0 copies are written anew; of pool odd nothing is computed.",
+    )
+    equals(
+        "groups",
+        ([it["id"] for it in said["groups"]], [it["groups"] for it in said["uncomputed"] if it["kind"] == "upmap"]),
+        (["1.1"], [["2.1"]]),
+    )
     up = Placed(text_of(uneven()), **PHOTOS).up[9]
-    lines = f"ceph osd pg-upmap-items 2.1 0 3 &\nceph osd pg-upmap-primary 1.9 {up[1]} ;\nceph osd rm-pg-upmap-items 1.1 &&\nwait\n"
+    lines = (
+        f"ceph osd pg-upmap-items 2.1 0 3 &\nceph osd pg-upmap-primary 1.9 {up[1]} ;\nceph osd rm-pg-upmap-items 1.1"
+        " &&\nwait\n"
+    )
     runner.refused("upmap", folder, commands(folder, lines), has="line 4: it isn't 'ceph osd pg-upmap-items")
     said = runner.said("upmap", folder, commands(folder, lines.removesuffix("wait\n")), status=2)
-    equals("primaries among them", {it["id"]: (it["primary_after"], it["copies"]) for it in said["groups"]}["1.9"], (up[1], 0))
-    wants("; 1 primary changes" in said["answer"] and "of pool odd nothing is computed" in said["answer"], said["answer"])
+    equals(
+        "primaries among them",
+        {it["id"]: (it["primary_after"], it["copies"]) for it in said["groups"]}["1.9"],
+        (up[1], 0),
+    )
+    wants(
+        "; 1 primary changes" in said["answer"] and "of pool odd nothing is computed" in said["answer"], said["answer"]
+    )
 
 
 def brief(placed, changed=()):
@@ -274,7 +381,16 @@ def brief(placed, changed=()):
     rows = []
     for group, up in enumerate(placed.up):
         up = dict(changed).get(group, up)
-        rows.append({"pgid": f"1.{group:x}", "state": "active+clean", "up": up, "up_primary": up[0] if up else -1, "acting": up, "acting_primary": up[0] if up else -1})
+        rows.append(
+            {
+                "pgid": f"1.{group:x}",
+                "state": "active+clean",
+                "up": up,
+                "up_primary": up[0] if up else -1,
+                "acting": up,
+                "acting_primary": up[0] if up else -1,
+            }
+        )
     return {"pg_ready": True, "pg_stats": rows}
 
 
@@ -284,7 +400,11 @@ def word(runner, folder):
     placed = Placed(text_of(crush), **PHOTOS)
     write(folder, crush, osd_dump(15), pgs_json=brief(placed))
     said = runner.said("check", folder, status=0)
-    equals("all", (said["answer"], said["lying"]["same"]), ("yes: 1 of 1 pool can be computed; 64 of 64 groups lie as computed.", 64))
+    equals(
+        "all",
+        (said["answer"], said["lying"]["same"]),
+        ("yes: 1 of 1 pool can be computed; 64 of 64 groups lie as computed.", 64),
+    )
     equals("a drain", runner.said("drain", folder, "host0", status=0)["answer"].split(":")[0], "yes")
     other = [placed.up[31][0], placed.up[31][1], next(it for it in range(15) if it not in placed.up[31])]
     osd = osd_dump(15)
@@ -293,22 +413,44 @@ def word(runner, folder):
     said = runner.said("check", folder, status=2)
     differs = f"1.1f up {str(other).replace(' ', '')} here {str(placed.up[31]).replace(' ', '')}: pg_temp"
     wants(f"63 of 64 groups lie as computed; 1 differs: {differs}" in said["answer"], said["answer"])
-    for words in (("drain", folder, "host0"), ("fail", folder, "--each", "host"), ("usage", folder), ("compare", folder, folder / "crush.json"), ("locate", folder, "--group", "1.1f")):
+    for words in (
+        ("drain", folder, "host0"),
+        ("fail", folder, "--each", "host"),
+        ("usage", folder),
+        ("compare", folder, folder / "crush.json"),
+        ("locate", folder, "--group", "1.1f"),
+    ):
         wants(runner.said(*words, status=2)["answer"].startswith("unknown: "), f"{words} is answered")
     equals("another group", runner.said("locate", folder, "--group", "1.1", status=0)["answer"], "")
     pgs = brief(placed)
     pgs["pg_stats"][5].update(state="unknown", up=[], up_primary=-1)
     write(folder, osd=osd_dump(15), pgs_json=pgs)
-    wants("63 of 64 groups lie as computed; of 1 the cluster says nothing (1.5)." in runner.said("check", folder, status=0)["answer"], "a group of which nothing is said")
+    wants(
+        "63 of 64 groups lie as computed; of 1 the cluster says nothing (1.5)."
+        in runner.said("check", folder, status=0)["answer"],
+        "a group of which nothing is said",
+    )
     write(folder, pgs_json={"pgs": []})
     runner.refused("check", folder, has="pgs.json: it isn't what 'ceph pg dump pgs_brief")
     (folder / "pgs.json").unlink()
     groups = {device: row[0] for device, row in placed.entries().items()}
     for more, status in ((0, 0), (1, 2)):
-        write(folder, osd__df_json={"nodes": [{"id": it, "kb": 100, "kb_used": 1, "pgs": groups[it] + (more if it == 3 else 0)} for it in range(15)]})
+        write(
+            folder,
+            osd__df_json={
+                "nodes": [
+                    {"id": it, "kb": 100, "kb_used": 1, "pgs": groups[it] + (more if it == 3 else 0)}
+                    for it in range(15)
+                ]
+            },
+        )
         said = runner.said("check", folder, status=status)
-        equals(f"{more} more by osd-df.json", (said["lying"]["by"], len(said["lying"]["devices"])), ("osd-df.json", more))
-        equals(f"{more} more: a drain", runner.said("drain", folder, "host0")["answer"].startswith("unknown"), bool(more))
+        equals(
+            f"{more} more by osd-df.json", (said["lying"]["by"], len(said["lying"]["devices"])), ("osd-df.json", more)
+        )
+        equals(
+            f"{more} more: a drain", runner.said("drain", folder, "host0")["answer"].startswith("unknown"), bool(more)
+        )
 
 
 def sites(runner, folder):
@@ -319,10 +461,20 @@ def sites(runner, folder):
         it["class"] = "ssd" if it["id"] < 6 else "hdd"
     write(folder, crush, {**osd, "stretch_mode": {"stretch_mode_enabled": True, "stretch_bucket_count": 2}})
     said = runner.said("fail", folder, "host0", status=2)
-    wants("what stops in pool photos isn't computed (stretch mode)" in said["answer"] and said["out"]["moved"], said["answer"])
+    wants(
+        "what stops in pool photos isn't computed (stretch mode)" in said["answer"] and said["out"]["moved"],
+        said["answer"],
+    )
     equals("a drain", runner.said("drain", folder, "host0")["status"], 0)
     equals("each", {it["status"] for it in runner.said("fail", folder, "--each", "host")["each"]}, {2})
-    write(folder, osd={**osd, "crush_node_flags": {"host0": ["noout"], "host3": ["noup"]}, "device_class_flags": {"hdd": ["noout"]}})
+    write(
+        folder,
+        osd={
+            **osd,
+            "crush_node_flags": {"host0": ["noout"], "host3": ["noup"]},
+            "device_class_flags": {"hdd": ["noout"]},
+        },
+    )
     for name, flagged in (("host0", "host0"), ("host1", None), ("host3", "the class hdd")):
         found = [it for it in runner.said("fail", folder, name)["warnings"] if "noout" in it]
         equals(name, [f"noout of {flagged}:" in it for it in found], [True] if flagged else [])
@@ -336,18 +488,32 @@ def many_buckets(runner, folder):
     crush["devices"] += [{"id": it + 700, "name": f"osd.{it + 700}"} for it in range(700)]
     moved = lambda id_: id_ + 700 if id_ >= 0 else id_ - 1000
     for it in other["buckets"]:
-        crush["buckets"].append({**it, "id": moved(it["id"]), "name": f"other-{it['name']}", "items": [{**of, "id": moved(of["id"])} for of in it["items"]]})
+        crush["buckets"].append(
+            {
+                **it,
+                "id": moved(it["id"]),
+                "name": f"other-{it['name']}",
+                "items": [{**of, "id": moved(of["id"])} for of in it["items"]],
+            }
+        )
     crush["rules"].append(rule(1, "other", ({**STEPS[0], "item": -1001, "item_name": "other-default"}, *STEPS[1:])))
     write(folder, crush, osd_dump(1400, [pool(1, "photos", pg_num=8), pool(2, "mail", pg_num=8, crush_rule=1)]))
     said = runner.said("usage", folder, "--groups", status=0)
     own = {**crush_dump(700, 1, "straw2", "straw2")}
-    equals("the first", [it["up"] for it in said["groups"] if it["pool"] == 1], Placed(text_of(own), pool=1, size=3, pg_num=8).up)
+    equals(
+        "the first",
+        [it["up"] for it in said["groups"] if it["pool"] == 1],
+        Placed(text_of(own), pool=1, size=3, pg_num=8).up,
+    )
     wants(all(700 <= device for it in said["groups"] if it["pool"] == 2 for device in it["up"]), "the second")
     equals("a drain", runner.said("drain", folder, "other-host3")["status"], 0)
     crush["rules"][1]["steps"] = [*crush["rules"][1]["steps"], *STEPS]
     write(folder, crush)
     said = runner.said("check", folder, status=1)
-    wants("below its rule other are 1,402 buckets, and crushcalc takes 1,024" in said["uncomputed"][0]["text"], said["uncomputed"])
+    wants(
+        "below its rule other are 1,402 buckets, and crushcalc takes 1,024" in said["uncomputed"][0]["text"],
+        said["uncomputed"],
+    )
 
 
 def left_out(runner, folder):
@@ -355,9 +521,25 @@ def left_out(runner, folder):
     located."""
     crush = uneven()
     crush["rules"] += [rule(1, "msr", STEPS, 4), rule(2, "tries", ({"op": "set_choose_local_tries", "num": 2}, *STEPS))]
-    write(folder, crush, osd_dump(15, [pool(1, "photos", tiers=[3], read_tier=3), pool(2, "new", crush_rule=1), pool(3, "old", crush_rule=2), pool(4, "wide", size=33)]))
+    write(
+        folder,
+        crush,
+        osd_dump(
+            15,
+            [
+                pool(1, "photos", tiers=[3], read_tier=3),
+                pool(2, "new", crush_rule=1),
+                pool(3, "old", crush_rule=2),
+                pool(4, "wide", size=33),
+            ],
+        ),
+    )
     texts = {it["pools"][0]: it["text"] for it in runner.said("check", folder, status=1)["uncomputed"]}
-    for id_, words in ((2, "it is an MSR rule"), (3, "has the step set_choose_local_tries 2"), (4, "its size is 33, and crushcalc takes 1 to 32: 'ceph pg ls-by-pool wide'")):
+    for id_, words in (
+        (2, "it is an MSR rule"),
+        (3, "has the step set_choose_local_tries 2"),
+        (4, "its size is 33, and crushcalc takes 1 to 32: 'ceph pg ls-by-pool wide'"),
+    ):
         wants(words in texts[id_], texts)
     runner.refused("locate", folder, "photos", "a", has="pool photos is a tier of others, or has tiers (old)")
     equals("its groups", runner.said("locate", folder, "--group", "1.1")["status"], 0)
@@ -372,16 +554,35 @@ def words(runner, folder):
     used, after = ({it: sum(it in up for up in of.up) * 1_000_000 for it in range(12)} for of in (old, new))
     fills = max(range(3, 12), key=lambda it: after[it] - used[it])
     df = {"stats": {}, "pools": [{"name": "photos", "id": 1, "stats": {"stored": 1, "bytes_used": 192_000_000}}]}
-    nodes = [{"id": it, "kb": (int(after[fills] / 0.87) if it == fills else 500_000_000) // 1024, "kb_used": used[it] // 1024, "utilization": 1.5} for it in range(12)]
+    nodes = [
+        {
+            "id": it,
+            "kb": (int(after[fills] / 0.87) if it == fills else 500_000_000) // 1024,
+            "kb_used": used[it] // 1024,
+            "utilization": 1.5,
+        }
+        for it in range(12)
+    ]
     write(folder, crush, osd_dump(), df_json=df, osd__df_json={"nodes": nodes})
-    wants(runner.said("drain", folder, "host0", status=0)["answer"].startswith("yes, but 1 device gets past near-full (a health warning): "), "near-full")
+    wants(
+        runner.said("drain", folder, "host0", status=0)["answer"].startswith(
+            "yes, but 1 device gets past near-full (a health warning): "
+        ),
+        "near-full",
+    )
     write(folder, osd__df_json=json.dumps({"nodes": nodes}).replace('"utilization": 1.5', '"utilization": -nan', 1))
     said = runner.said("usage", folder, status=0)
     wants(said["warnings"] == ["osd-df.json has no number of how full osd.0 is (nan)"], said["warnings"])
     unproved = folder / "unproved"
-    unproved.write_text(f'#!/bin/sh\n[ "$1" = --version ] && {{ echo "crushcalc 0.1.0 (unproved)"; exit; }}\nexec {runner.program} "$@"\n')
+    unproved.write_text(
+        '#!/bin/sh\n[ "$1" = --version ] && { echo "crushcalc 0.1.0 (unproved)"; exit; }\nexec'
+        f' {runner.program} "$@"\n'
+    )
     unproved.chmod(0o755)
-    wants("not proved: the program is unproved" in runner.run("drain", folder, "host0", "--program", unproved)[1], "an unproved program proves")
+    wants(
+        "not proved: the program is unproved" in runner.run("drain", folder, "host0", "--program", unproved)[1],
+        "an unproved program proves",
+    )
     wants("crushcalc 0.1.0 (unproved)" in runner.run("--version", CRUSHCALC=str(unproved))[1], "its version")
 
 
@@ -393,17 +594,29 @@ def outputs(runner, folder):
     write(folder, crush, osd_dump())
     command = " ".join([*runner.command, "drain", str(folder), "host1"])
     for end, words in (("> /dev/full", "No space left on device"), (">&-", "it is closed")):
-        ran = subprocess.run(["sh", "-c", f"{command} {end}"], stdout=subprocess.PIPE, stderr=subprocess.PIPE, env=runner.environment)
+        ran = subprocess.run(
+            ["sh", "-c", f"{command} {end}"], stdout=subprocess.PIPE, stderr=subprocess.PIPE, env=runner.environment
+        )
         err = ran.stderr.decode()
         equals(f"{end}: status", ran.returncode, 2)
         equals(f"{end}: words", err, f"crushplan: the answer can't be written to standard output: {words}\n")
     for character_set, name in (("ascii", "h?st?0"), ("latin-1", "h\u00f6st?0")):
-        ran = subprocess.run(command.split(), stdout=subprocess.PIPE, stderr=subprocess.PIPE, env={**runner.environment, "PYTHONIOENCODING": character_set})
+        ran = subprocess.run(
+            command.split(),
+            stdout=subprocess.PIPE,
+            stderr=subprocess.PIPE,
+            env={**runner.environment, "PYTHONIOENCODING": character_set},
+        )
         said = (ran.returncode, name in ran.stdout.decode(character_set), ran.stderr)
         equals(f"a terminal of {character_set}", said, (0, True, b""))
     for words in ("--help", "--version", "help", "drain --help"):
         for end, why in ((">&-", "it is closed"), ("> /dev/full", "No space left on device")):
-            ran = subprocess.run(["sh", "-c", f"{' '.join(runner.command)} {words} {end}"], stdout=subprocess.PIPE, stderr=subprocess.PIPE, env=runner.environment)
+            ran = subprocess.run(
+                ["sh", "-c", f"{' '.join(runner.command)} {words} {end}"],
+                stdout=subprocess.PIPE,
+                stderr=subprocess.PIPE,
+                env=runner.environment,
+            )
             wanted = (2, f"crushplan: the answer can't be written to standard output: {why}\n")
             equals(f"{words} {end}", (ran.returncode, ran.stderr.decode()), wanted)
 
@@ -418,13 +631,36 @@ def left_alone(runner, folder):
         said = runner.said(*words, status=2)
         equals(f"{words}: notes", said["notes"], [])
     text = runner.run("compare", folder, folder / "crush.json")[1]
-    wants(text.startswith("unknown: no pool can be computed.\n\nnot computed: ") and not re.search(r"(?<![.\w])0\b", text), text)
+    wants(
+        text.startswith("unknown: no pool can be computed.\n\nnot computed: ")
+        and not re.search(r"(?<![.\w])0\b", text),
+        text,
+    )
     write(folder, crush_dump())
     said = runner.said("check", folder, status=0)
-    equals("of one that is", sorted(it["kind"] for it in said["notes"]), ["object hash", "pg_temp", "primary_temp", "split"])
+    equals(
+        "of one that is",
+        sorted(it["kind"] for it in said["notes"]),
+        ["object hash", "pg_temp", "primary_temp", "split"],
+    )
 
 
 def cases():
-    found = (straw2, converted, host_added, class_changed, sets, lists, primaries, mixed_list, word, sites, many_buckets, left_out,
-             left_alone, words, outputs)
+    found = (
+        straw2,
+        converted,
+        host_added,
+        class_changed,
+        sets,
+        lists,
+        primaries,
+        mixed_list,
+        word,
+        sites,
+        many_buckets,
+        left_out,
+        left_alone,
+        words,
+        outputs,
+    )
     return [(it.__name__, it) for it in found]

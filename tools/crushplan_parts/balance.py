@@ -123,11 +123,10 @@ def note(plan, pool, why):
 
 def all_placed(plan, pools):
     """Returns where all groups of pools lie, by pool and group."""
-    run = plan.run([it.id for it in pools])
-    asked = {it.id: run.lists(it.id, range(it.pg_num)) for it in pools}
-    if pools:
-        plan.answer(run)
-    return {pool: run.placements(it) for pool, it in asked.items()}
+    runs = {it.id: plan.run([it.id]) for it in pools}
+    asked = {it.id: runs[it.id].lists(it.id, range(it.pg_num)) for it in pools}
+    plan.answer(*runs.values())
+    return {pool: runs[pool].placements(it) for pool, it in asked.items()}
 
 
 def kept_pairs(plan, pool, placements):

@@ -98,6 +98,7 @@ class Report:
             "deviation_after": cut_off(balancing.deviation(counts)),
             "staying_groups": pool.pg_num - len(balancing.free),
             "off": [{"device": it, "copies": counts[it], "share": shares[it]} for it in off],
+            "usage": usage_said(balancing.shares, balancing.ground.counts, counts),
         }  # fmt: skip
 
     def answer(self):
@@ -108,7 +109,8 @@ class Report:
         text = {"pairs": pairs_text, "before": listed, "after": listed}
         rows = [[text.get(head, lambda it: it)(it[head]) for head in GROUP_HEADS] for it in groups]
         blocks = [self.pools_table(), "\n".join(self.remarks()), lines_text(lines)]
-        return Answer(self.status(), self.sentence(), fields, blocks, [GROUP_HEADS, *rows], self.drawing)
+        answer = Answer(self.status(), self.sentence(), fields, blocks, [GROUP_HEADS, *rows], self.drawing)
+        return answer.of((it["pool"] for it in self.pools), {it["pool"] for it in groups})
 
     def status(self):
         if lacks_pools(self.plan, self.asked):
@@ -122,6 +124,7 @@ class Report:
             "moved": len(groups), "copies": self.copies, "least": proposal.least, "extra": proposal.extra,
             "bytes": whole(self.bytes), "pools": self.pools, "heavy": self.heavy, "fullest": self.fullest(),
             "past_fill": list(self.past_fill), "groups": groups, "lines": lines,
+            "devices": devices_said(self.plan, self.pools), "remarks": list(self.remarks()),
         }  # fmt: skip
 
     def group_said(self, item):
@@ -139,7 +142,7 @@ class Report:
 
     def fullest(self):
         """Returns the fullest devices before and after by all pools, with how full they are."""
-        fill, found = self.proposal.fill, {"by": "bytes" if self.proposal.fill.known else "copies"}
+        fill, found = self.proposal.fill, {"by": self.proposal.fill.by()}
         for name, of in (("before", lambda it: it.ground.counts), ("after", self.counts_of)):
             for it in self.balancings:
                 fill.take(it, of(it))
@@ -158,7 +161,8 @@ class Report:
         rest = "".join(f"; {it}" for it in (self.off_text(), self.past_text()) if it)
         if not self.copies:
             return f"no copy can move{rest}." if rest else f"no copy has to move: {self.aim()}."
-        extra = f", {self.proposal.extra:,} of them to even out bytes" if self.proposal.extra else ""
+        by, more = self.proposal.fill.by(), self.proposal.extra
+        extra = f", {more:,} of these copies only to even out {by}" if more else ""
         least = ", and no list of items does it with fewer"
         if self.copies != self.proposal.least:
             least = f"; no list of items does it with fewer than {self.proposal.least:,}"
@@ -213,9 +217,12 @@ class Report:
     def off_line(self, pool):
         """Returns why devices of a pool stay off, in words."""
         each = [f"osd.{it['device']} has {it['copies']:,} for a share of {it['share']}" for it in pool["off"]]
+        own = next(it for it in self.balancings if it.pool.id == pool["pool"])
         why = "no item that the rule allows helps"
         if not self.proposal.is_whole:
             why = "the search was interrupted"
+        elif own.has_parts() and not own.is_possible(self.proposal.deviation):
+            why = "copies of a group go together to another part of the tree, and no numbers of these are nearer"
         elif pool["staying_groups"]:
             why += f", and {counted(pool['staying_groups'], 'group')} can't change"
         return f"Of pool {pool['name']} {some(each, MOST_NAMED)}: {why}."
@@ -233,6 +240,22 @@ def clients_lines(plan, first, what):
     if least is not None and least < first:
         command = f"ceph osd set-require-min-compat-client {first}"
         yield f"First '{command}': by osd.json older clients are let in, which know no such {what}."
+
+
+def usage_said(shares, before, after):
+    """Returns what each device has of a pool before and after, beside its share, which is None
+    where it isn't to be evened out."""
+    devices = sorted({*shares, *(it for it in {*before, *after} if before.get(it) or after.get(it))})
+    share = {it: cut_off(of) for it, of in shares.items()}
+    return [
+        {"device": it, "before": before.get(it, 0), "after": after.get(it, 0), "share": share.get(it)} for it in devices
+    ]
+
+
+def devices_said(plan, pools):
+    """Returns the names and hosts of the devices in the usage of pools."""
+    devices = sorted({it["device"] for pool in pools for it in pool["usage"]})
+    return [{"device": it, "name": plan.map.name_of(it), "host": plan.tree.host(it)} for it in devices]
 
 
 def heavy_said(plan, balancings):

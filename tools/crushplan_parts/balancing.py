@@ -1,8 +1,10 @@
 """A pool that is to be evened out: which of its copies may move and where to, by its rule, how many
 each device should have, and searches for what brings it there."""
 import fractions
+import functools
 
 from .evening import Ground, InnerSearch, PartSearch
+from .parts import Parts
 from .rule_shares import Zone, blocks_of
 from .settled import excepted
 
@@ -136,17 +138,27 @@ class Balancing:
 
     def least(self, deviation=None):
         """Returns how many copies have to move at least for a deviation: no copy goes from what one
-        take of the rule has to what another has."""
+        take of the rule has to what another has, and whole parts alone from one upper domain to
+        another."""
         low, high = self.limits(deviation)
-        return sum(self.ground.least(low, high, self.of_block(place)) for place, _ in enumerate(self.blocks))
+        by_parts = self.has_parts() and self.parts.are_whole
+        own = [place for place, it in enumerate(self.blocks) if not by_parts or not it.upper]
+        found = sum(self.ground.least(low, high, self.of_block(place)) for place in own)
+        return found + (self.parts.least(low, high) if by_parts else 0)
+
+    def has_parts(self):
+        """Returns whether a take of the rule chooses at two levels."""
+        return any(it.upper for it in self.blocks)
 
     def of_block(self, place):
         return [it for it in self.by_device if self.by_device[it][0] == place]
 
     def is_possible(self, deviation):
-        """Returns whether the numbers of a zone can sum up to its copies for a deviation: of
-        several upper domains copies go from one to another."""
+        """Returns whether the numbers of a zone can sum up to its copies for a deviation, those of
+        an upper domain to whole parts."""
         low, high = self.limits(deviation)
+        if self.has_parts() and not self.parts.are_possible(low, high):
+            return False
         for place, _ in enumerate(self.blocks):
             own = self.of_block(place)
             copies = sum(self.ground.counts[it] for it in own)
@@ -164,9 +176,12 @@ class Balancing:
 
     def run(self, search):
         """Has a search move what it finds."""
-        if any(it.upper for it in self.blocks):
-            self.even_uppers(search)
+        is_possible = not self.has_parts() or self.even_uppers(search)
         search.even()
+        if not is_possible:
+            search.low, search.high = self.nearest()
+            search.even()
+        search.gather()
 
     def search(self, deviation=None):
         """Returns the search, with where copies then lie."""
@@ -180,85 +195,26 @@ class Balancing:
         return float(copies / share) if share else float(copies)
 
     def even_uppers(self, inner):
-        """Moves parts of groups: first where that moves fewer copies than each upper domain by
-        itself would, then until each has copies that its devices can share."""
-        ground, places = self.parts(inner)
+        """Moves parts of groups, until each upper domain has as many as it should have. Returns
+        whether its devices can then be within the search's limits."""
+        parts, limits = self.parts, (inner.low, inner.high)
+        is_possible = parts.are_possible(*limits)
+        uppers = parts.targets(*limits) if is_possible else parts.targets(*limits, self.nearest())
         shares = {zone: float(sum(self.shares[it] for it in own)) for zone, own in inner.ground.members.items()}
-        level = lambda zone, parts: parts / shares[zone] if shares[zone] else 0.0
-        least, most = self.part_limits(inner, ground, places)
-        found = PartSearch(ground, *self.part_wishes(inner, ground, least, most), level, inner, places, inner.watch)
-        found.least_gain = 1
-        found.give_to_lacking()
-        found.low, found.high, found.least_gain = least, most, None
-        found.even()
+        level = lambda zone, count: count / shares[zone] if shares[zone] else 0.0
+        targets = {zone: it.parts for zone, it in uppers.items()}
+        search = PartSearch(parts.ground, targets, targets, level, inner, parts.places, inner.watch)
+        search.even()
+        search.exchange(*({zone: it.range()[place] for zone, it in uppers.items()} for place in (0, 1)))
+        return is_possible
 
-    def part_limits(self, inner, ground, places):
-        """Returns the least and the greatest number of parts that the devices of each upper domain
-        can share: a lower domain has at most one copy of each part."""
-        whole = {}
-        for group, parts in places.items():
-            for own in (of for of, zone in zip(parts, ground.lists[group]) if zone in ground.zone):
-                for place in own:
-                    device = inner.at[group][place]
-                    whole[device] = whole.get(device, 0) + 1
-        low, high = {}, {}
-        for zone, own in inner.ground.members.items():
-            block, by_domain = self.blocks[zone[0]], {}
-            for it in own:
-                rest = inner.count[it] - whole.get(it, 0)  # copies of parts that stay
-                least, most = by_domain.get(block.domain[it], (0, 0))
-                by_domain[block.domain[it]] = least + inner.low[it] - rest, most + inner.high[it] - rest
-            share = sum(self.shares[it] for it in own) / block.width
-            low[zone], high[zone] = parts_within(list(by_domain.values()), block.width, share)
-        return low, high
+    def nearest(self):
+        """Returns the limits by the least deviation that whole parts allow."""
+        from .ladder import Ladder
 
-    def part_wishes(self, inner, ground, least, most):
-        """Returns numbers of parts by which an upper domain whose devices have more too many than
-        they lack gives some to one of which the opposite holds."""
-        low, high = dict.fromkeys(least, 0), dict.fromkeys(least, len(self.free))
-        for zone, own in inner.ground.members.items():
-            over = sum(max(0, inner.count[it] - inner.high[it]) for it in own)
-            under = sum(max(0, inner.low[it] - inner.count[it]) for it in own)
-            parts, count = abs(over - under) // self.blocks[zone[0]].width, ground.counts[zone]
-            if over > under:
-                high[zone] = max(count - parts, least[zone])
-            else:
-                low[zone] = min(count + parts, most[zone])
-        return low, high
+        ladder = Ladder([self])
+        return self.limits(ladder.at(ladder.first_where(self.is_possible)))
 
-    def is_whole(self, upper, devices):
-        """Returns whether the devices of a group in an upper domain are a part that may go."""
-        return len(devices) == self.blocks[upper[0]].width and all(it in self.by_device for it in devices)
-
-    def parts(self, inner):
-        """Returns the ground of the upper domains, and the places of each part by group."""
-        lists, places, zone, domain = {}, {}, {}, {}
-        block_of = {device: place for place, it in enumerate(self.blocks) for device in it.domain}
-        for it in inner.ground.members:
-            if it[1] is not None:
-                zone[it], domain[it] = it[0], it
-                domain[(*it, None)] = it  # a part that has to stay, as it isn't whole
-        for group, own in self.free.items():
-            found = {}
-            for place, device in enumerate(own):
-                block = block_of[device]
-                if self.blocks[block].upper:
-                    found.setdefault((block, self.blocks[block].upper[device]), []).append(place)
-            devices = {it: [own[place] for place in of] for it, of in found.items()}
-            lists[group] = tuple(it if self.is_whole(it, of) else (*it, None) for it, of in devices.items())
-            places[group] = list(found.values())
-        return Ground(lists, dict.fromkeys(lists, ()), {}, zone, domain), places
-
-
-def parts_within(limits, width, share):
-    """Returns the least and the greatest number of parts, each of so many copies in different
-    domains, that domains can have by their limits; where none is within, the number nearest to the
-    share."""
-    first, last = sum(low for low, _ in limits) // width, -(-sum(high for _, high in limits) // width)
-    found = [
-        it for it in range(max(first, 0), last + 1)
-        if max(low for low, _ in limits) <= it and sum(low for low, _ in limits) <= it * width
-        and it * width <= sum(min(high, it) for _, high in limits)
-    ]  # fmt: skip
-    nearest = max(0, floor(share + HALF))
-    return (min(found), max(found)) if found else (nearest, nearest)
+    @functools.cached_property
+    def parts(self):
+        return Parts(self)

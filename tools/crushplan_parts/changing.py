@@ -25,7 +25,11 @@ class Start:
     def ask_short_pools(self):
         """Asks all lists of the pools that lack copies already, so that each short group is
         known."""
-        short = [it for it in self.plan.pools.values() if self.usage[it.id].total() < it.size * it.pg_num or self.usage[it.id].doubled]
+        short = [
+            it
+            for it in self.plan.pools.values()
+            if self.usage[it.id].total() < it.size * it.pg_num or self.usage[it.id].doubled
+        ]
         if not short:
             return
         run = self.plan.run([it.id for it in short])

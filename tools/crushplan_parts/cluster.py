@@ -12,7 +12,14 @@ from .fields import opened
 from .read_dump import read_dump
 from .read_pgs import NONE, read_pgs
 
-MAP_DUMP, MAP_TEXT, OSD_DUMP, DF, OSD_DF, PGS = "crush.json", "map.txt", "osd.json", "df.json", "osd-df.json", "pgs.json"
+MAP_DUMP, MAP_TEXT, OSD_DUMP, DF, OSD_DF, PGS = (
+    "crush.json",
+    "map.txt",
+    "osd.json",
+    "df.json",
+    "osd-df.json",
+    "pgs.json",
+)
 HASHPSPOOL, RJENKINS = 1, 2
 GROUP = re.compile(r"(\d{1,10})\.([0-9a-f]{1,8})")
 
@@ -121,7 +128,10 @@ def read_map(folder, with_osd_0):
 
         map_ = read_text(text_of(text), MAP_TEXT)
     else:
-        raise Fault(f"{folder}: it has neither crush.json ('ceph osd crush dump -f json') nor map.txt ('crushtool -d'); 'crushplan fetch {folder}' writes them where ceph is there")
+        raise Fault(
+            f"{folder}: it has neither crush.json ('ceph osd crush dump -f json') nor map.txt ('crushtool -d');"
+            f" 'crushplan fetch {folder}' writes them where ceph is there"
+        )
     cycle = [map_.buckets[it].name for it in map_.cycle()]
     if cycle:
         raise Fault(f"{map_.file}: the bucket {cycle[0]} is below itself ({' has '.join([*cycle, cycle[0]])})")
@@ -143,14 +153,21 @@ def read_cluster(folder, asked):
     dump of them, and `allow_unplaced`."""
     folder = pathlib.Path(folder)
     if not folder.is_dir():
-        raise Fault(f"{folder}: there is no such folder" if not folder.exists() else f"{folder}: it isn't a folder: crushplan takes the folder of a cluster's dumps")
+        raise Fault(
+            f"{folder}: there is no such folder"
+            if not folder.exists()
+            else f"{folder}: it isn't a folder: crushplan takes the folder of a cluster's dumps"
+        )
     path = folder / OSD_DUMP
     dump = opened(path, OSD_DUMP) if path.exists() else None
     states = {} if dump is None else states_of(dump)
     map_ = read_map(folder, None if dump is None else 0 in states)
     cluster = Cluster(folder, map_, {}, states, {}, {}, {}, {}, {}, {}, {}, [])
     if map_.rounded:
-        cluster.warnings.append(f"{map_.file} has weights that 'crushtool -d' rounded to three decimals; {MAP_DUMP} ('ceph osd crush dump -f json') has exact ones")
+        cluster.warnings.append(
+            f"{map_.file} has weights that 'crushtool -d' rounded to three decimals; {MAP_DUMP} ('ceph osd crush dump"
+            " -f json') has exact ones"
+        )
     if dump is None:
         describe_pools(cluster, asked)
     else:
@@ -178,16 +195,29 @@ def read_osd_dump(cluster, dump, asked):
     for it in dump.each("pools"):
         pool = pool_of(it)
         cluster.pools[pool.id] = pool
-    in_buckets = {item for bucket in cluster.map.buckets.values() for item, _ in bucket.items if item is not None and item >= 0}
-    lacking = sorted(id_ for id_, it in cluster.states.items() if id_ not in cluster.map.devices and id_ not in in_buckets)
+    in_buckets = {
+        item for bucket in cluster.map.buckets.values() for item, _ in bucket.items if item is not None and item >= 0
+    }
+    lacking = sorted(
+        id_ for id_, it in cluster.states.items() if id_ not in cluster.map.devices and id_ not in in_buckets
+    )
     working = [id_ for id_ in lacking if cluster.states[id_].up and cluster.states[id_].reweight]
     if working and not asked.allow_unplaced:
-        raise Fault(f"{OSD_DUMP} has devices that {cluster.map.file} lacks ({some([f'osd.{it}' for it in working])}): is it of this cluster, and of the same time? Where they aren't placed yet, say --allow-unplaced.")
+        raise Fault(
+            f"{OSD_DUMP} has devices that {cluster.map.file} lacks ({some([f'osd.{it}' for it in working])}): is it of"
+            " this cluster, and of the same time? Where they aren't placed yet, say --allow-unplaced."
+        )
     if lacking:
-        cluster.warnings.append(f"{OSD_DUMP} has devices that {cluster.map.file} lacks; they hold nothing: {some([f'osd.{it}' for it in lacking])}")
+        cluster.warnings.append(
+            f"{OSD_DUMP} has devices that {cluster.map.file} lacks; they hold nothing:"
+            f" {some([f'osd.{it}' for it in lacking])}"
+        )
     missing = sorted(in_buckets - cluster.states.keys())
     if missing:
-        cluster.warnings.append(f"{cluster.map.file} has devices that {OSD_DUMP} lacks; they count as out and down: {some([f'osd.{it}' for it in missing])}")
+        cluster.warnings.append(
+            f"{cluster.map.file} has devices that {OSD_DUMP} lacks; they count as out and down:"
+            f" {some([f'osd.{it}' for it in missing])}"
+        )
     for id_ in missing:
         cluster.states[id_] = State(0, False)
     read_upmaps(cluster, dump)
@@ -227,10 +257,15 @@ def pool_of(node):
     kind, name = node.get("type", int), node.get("pool_name", str)
     pg_num, pgp_num = node.get("pg_num", int), node.get("pg_placement_num", int)
     target = (node.get("pg_num_target", int, pg_num), node.get("pg_placement_num_target", int, pgp_num))
-    flags = node.get("flags_names", str, "").split(",") if node.has("flags_names") else ["hashpspool"] * (node.get("flags", int, HASHPSPOOL) & HASHPSPOOL)
+    flags = (
+        node.get("flags_names", str, "").split(",")
+        if node.has("flags_names")
+        else ["hashpspool"] * (node.get("flags", int, HASHPSPOOL) & HASHPSPOOL)
+    )
     size = node.get("size", int)
     return Pool(
-        node.get("pool", int), name, KINDS.get(kind, f"of type {kind}"), size, node.size("min_size", int, 1), node.get("crush_rule", int), pg_num, pgp_num,
+        node.get("pool", int), name, KINDS.get(kind, f"of type {kind}"), size, node.size("min_size", int, 1),
+        node.get("crush_rule", int), pg_num, pgp_num,
         "hashpspool" in flags, node.get("object_hash", int, RJENKINS), target if target != (pg_num, pgp_num) else None,
         stretched=node.get("peering_crush_bucket_count", int, 0) > 0, tiers=tiers_of(node),
         profile=node.get("erasure_code_profile", str, ""),
@@ -257,7 +292,9 @@ def read_upmaps(cluster, dump):
         cluster.pairs.setdefault(pool, {})[group] = pairs
     for it in dump.each("pg_upmap", ()):
         pool, group = group_of(it.get("pgid", str), f"{it.where}: pgid")
-        cluster.lists.setdefault(pool, {})[group] = [None if of.of_kind(int) == NONE else of.value for of in it.each("osds")]
+        cluster.lists.setdefault(pool, {})[group] = [
+            None if of.of_kind(int) == NONE else of.value for of in it.each("osds")
+        ]
     for it in dump.each("pg_upmap_primaries", ()):
         pool, group = group_of(it.get("pgid", str), f"{it.where}: pgid")
         cluster.primaries.setdefault(pool, {})[group] = it.get("primary_osd", int)
@@ -282,8 +319,13 @@ def describe_pools(cluster, asked):
     cluster.described = True
     for rule in cluster.map.rules.values():
         size, pg_num = asked.size or 3, asked.pg_num or 128
-        cluster.pools[rule.id + 1] = Pool(rule.id + 1, rule.name, rule.kind, size, asked.min_size or size - size // 2, rule.id, pg_num, pg_num, True)
-    cluster.warnings.append(f"there is no {OSD_DUMP}: each rule is taken for a pool of size {asked.size or 3} with {asked.pg_num or 128} groups (--size, --pg-num, --min-size), and each device for in and up")
+        cluster.pools[rule.id + 1] = Pool(
+            rule.id + 1, rule.name, rule.kind, size, asked.min_size or size - size // 2, rule.id, pg_num, pg_num, True
+        )
+    cluster.warnings.append(
+        f"there is no {OSD_DUMP}: each rule is taken for a pool of size {asked.size or 3} with"
+        f" {asked.pg_num or 128} groups (--size, --pg-num, --min-size), and each device for in and up"
+    )
 
 
 def counts_by_pool(dump):
@@ -312,7 +354,10 @@ def read_bytes(cluster):
             if pool:
                 name = it.get("name", str, pool.name)
                 if name != pool.name and not cluster.described:
-                    raise Fault(f"{DF} has pool {pool.id} as {name!r}, and {OSD_DUMP} as {pool.name!r}: are they of one cluster, and of the same time?")
+                    raise Fault(
+                        f"{DF} has pool {pool.id} as {name!r}, and {OSD_DUMP} as {pool.name!r}: are they of one"
+                        " cluster, and of the same time?"
+                    )
                 pool.bytes = bytes_of(pool, it.at("stats"), counts_by_pool(dump))
     if (cluster.folder / OSD_DF).exists():
         read_rooms(cluster, opened(cluster.folder / OSD_DF, OSD_DF))
@@ -325,13 +370,15 @@ def read_rooms(cluster, dump):
         id_ = it.get("id", int)
         if id_ < 0:
             continue
-        if any(map(is_nan, it.value.values())):
+        if any(of != of for of in it.value.values()):  # as no number but nan
             odd.append(f"osd.{id_}")
             continue
-        cluster.rooms[id_] = Room(it.size("kb_used") * 1024, it.size("kb") * 1024, it.get("pgs", int) if isinstance(it.value.get("pgs"), int) else None)
+        cluster.rooms[id_] = Room(
+            it.size("kb_used") * 1024,
+            it.size("kb") * 1024,
+            it.get("pgs", int) if isinstance(it.value.get("pgs"), int) else None,
+        )
     if odd:
-        cluster.warnings.append(f"{OSD_DF} has no number of how full {some(odd)} {'is' if len(odd) == 1 else 'are'} (nan)")
-
-
-def is_nan(value):
-    return isinstance(value, (float, Decimal)) and value != value
+        cluster.warnings.append(
+            f"{OSD_DF} has no number of how full {some(odd)} {'is' if len(odd) == 1 else 'are'} (nan)"
+        )

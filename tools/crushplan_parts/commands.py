@@ -161,10 +161,7 @@ def number_in(text, least=None, most=None):
     except ValueError:
         raise Refused("EINVAL", f"Invalid command: {text} isn't a number") from None
     if found != found or least is not None and found < least or most is not None and found > most:
-        raise Refused(
-            "EINVAL",
-            f"Invalid command: {text} isn't in the range {least}..{'' if most is None else most}",
-        )
+        raise Refused("EINVAL", f"Invalid command: {text} isn't in the range {least}..{'' if most is None else most}")
     return found
 
 

@@ -107,8 +107,10 @@ def add_or_set(maps, words):
     if is_set and not wrapper.stands(id_) and wrapper.id_of(f"osd.{id_}") is None:
         raise Refused(
             "ENOENT",
-            f"unable to set item id {id_} name 'osd.{id_}' weight {weight} at location {location_text(location)}: "
-                "does not exist",
+            (
+                f"unable to set item id {id_} name 'osd.{id_}' weight {weight} at location {location_text(location)}: "
+                "does not exist"
+            ),
         )
     if is_set or wrapper.is_at(id_, location) is not None:
         wrapper.set_item(id_, value, f"osd.{id_}", location)
@@ -262,8 +264,10 @@ def set_class(maps, words):
         if has is not None and has != class_:
             raise Refused(
                 "EBUSY",
-                f"osd.{id_} has already bound to class '{has}', can not reset class to '{class_}'; "
-                "use 'ceph osd crush rm-device-class <id>' to remove old class first",
+                (
+                    f"osd.{id_} has already bound to class '{has}', can not reset class to '{class_}'; "
+                    "use 'ceph osd crush rm-device-class <id>' to remove old class first"
+                ),
             )
     if not NAME.fullmatch(class_):
         raise Refused("EINVAL", f"Invalid command: invalid chars in {class_}")

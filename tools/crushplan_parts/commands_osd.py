@@ -5,6 +5,7 @@ from .maps import Osd
 from .wrapper import Refused, Wrapper
 
 ALL = ("any", "all", "*")
+LIMIT = "rack"  # the least type whose buckets Ceph doesn't mark out by itself where all of one is down
 FLAGS = (
     "full",
     "pause",
@@ -122,8 +123,10 @@ def sure_and_down(maps, words):
     if not words.is_sure():
         raise Refused(
             "EPERM",
-            "Are you SURE?  Did you verify with 'ceph osd safe-to-destroy'?  This will mean real, permanent data loss. "
-            "Pass --yes-i-really-mean-it if you really do.",
+            (
+                "Are you SURE?  Did you verify with 'ceph osd safe-to-destroy'?  This will mean real, permanent data"
+                " loss. Pass --yes-i-really-mean-it if you really do."
+            ),
         )
     if id_ in maps.osds and maps.osds[id_].up:
         raise Refused("EBUSY", f"osd.{id_} is not `down`.")
@@ -212,15 +215,32 @@ def come_up(maps, it):
         it.reweight, it.old, it.went_out = it.old or ONE, 0, False
 
 
+def comes_up(maps, it):
+    """Returns whether an OSD is down whose process runs, and that is up again in a second."""
+    return not it.up and it.runs and "noup" not in maps.flags and not it.destroyed
+
+
 def await_clean(maps):
     """Returns the maps once enough time has passed, with what has happened by itself: OSDs whose
     process runs are up again, and others that the runbook took down are out."""
     found, remarks = maps.copied(), []
     for id_, it in found.osds.items():
-        if not it.up and it.runs and "noup" not in found.flags and not it.destroyed:
+        if comes_up(found, it):
             come_up(found, it)
             remarks.append(f"osd.{id_} is up again")
     return found, remarks
+
+
+def kept_in(maps, ids):
+    """Returns those of some OSDs that are down that stay in: the whole rack, or what is above one,
+    is down (mon_osd_down_out_subtree_limit)."""
+    of_rack = next((number for number, name in maps.crush.types.items() if name == LIMIT), None)
+    if of_rack is None:
+        return []
+    is_down = lambda id_: id_ not in maps.osds or not maps.osds[id_].up
+    racks = [set(maps.crush.below(it.id)) for it in maps.crush.buckets.values() if it.type >= of_rack and not it.shadow]
+    down = set().union(*(own for own in racks if all(map(is_down, own))))
+    return [it for it in ids if it in down]
 
 
 def go_out(maps, ids):

@@ -110,8 +110,10 @@ def check_clients(maps):
     if maps.oldest_client in OLD_CLIENTS:
         raise Refused(
             "EPERM",
-            f"min_compat_client {maps.oldest_client} < luminous, which is required for pg-upmap. "
-            "Try 'ceph osd set-require-min-compat-client luminous' before using the new interface",
+            (
+                f"min_compat_client {maps.oldest_client} < luminous, which is required for pg-upmap. "
+                "Try 'ceph osd set-require-min-compat-client luminous' before using the new interface"
+            ),
         )
 
 

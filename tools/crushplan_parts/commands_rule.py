@@ -26,8 +26,10 @@ def create_erasure(maps, words):
     if own is None:
         raise Refused(
             "EINVAL",
-            "cannot determine the erasure code plugin because there is no 'plugin' entry in the "
-            "erasure_code_profile {}",
+            (
+                "cannot determine the erasure code plugin because there is no 'plugin' entry in the "
+                "erasure_code_profile {}"
+            ),
         )
     root, type_ = own.get("crush-root", "default"), own.get("crush-failure-domain", "host")
     size = int(own.get("k", 2)) + int(own.get("m", 1))

@@ -55,8 +55,9 @@ class NewMap:
 
     def leave_out(self, pool, kind, why):
         self.left_out.append(pool)
-        self.plan.notes.append(Note(kind, f"pool {pool.name} ({pool.id}) isn't computed on {self.map.file}: {why}", pools=[pool.id]))
-
+        self.plan.notes.append(
+            Note(kind, f"pool {pool.name} ({pool.id}) isn't computed on {self.map.file}: {why}", pools=[pool.id])
+        )
 
     def changes(self):
         """Returns what moves in each pool that is computed on both maps."""
@@ -79,7 +80,12 @@ class NewMap:
         plan, own = self.plan, {}
         for id_ in list(plan.left_out):
             pool = plan.cluster.pools[id_]
-            if plan.cluster.groups is not None and plan.map.rules.get(pool.rule) and entries_said(plan, pool) is not None and not pool_fault(self.map, pool, plan.cluster.described):
+            if (
+                plan.cluster.groups is not None
+                and plan.map.rules.get(pool.rule)
+                and entries_said(plan, pool) is not None
+                and not pool_fault(self.map, pool, plan.cluster.described)
+            ):
                 own[id_] = pool
         texts = plan.accepted(self.map, own, lambda *_: None)
         if not own:
@@ -99,7 +105,11 @@ class NewMap:
 
 
 def compare(plan, asked):
-    """Answers what a changed map moves."""
+    """Answers what a changed map moves, or each of several."""
+    if asked.others:
+        from .compare_each import compare_each
+
+        return compare_each(plan, asked)
     new = NewMap(plan, read_new(plan, asked.new))
     changes = new.changes() + new.changes_by_word()
     if not changes:
@@ -112,31 +122,120 @@ def compare(plan, asked):
     unknown = bool(new.left_out or plan.left_out)
     full = Filled(plan, new.map, changes)
     status = 1 if missing or full.past["backfillfull_ratio"] else 2 if unknown else 0
-    sentence = f"{counted(moved, 'group')} {'moves' if moved == 1 else 'move'}, and {counted(copies, *COPY)} {'is' if copies == 1 else 'are'} written anew" + (f"; {counted(missing, *COPY)} {'has' if missing == 1 else 'have'} no device{' (as many as before)' if missing == before else f' ({before:,} before)' if before else ''}" if missing else "") + (f"; {full.past_text('backfillfull_ratio')}, past the backfill-full ratio" if full.past["backfillfull_ratio"] else "") + ("; not all can be computed" if unknown else "") + "."
+    sentence = (
+        f"{counted(moved, 'group')} {'moves' if moved == 1 else 'move'}, and"
+        f" {counted(copies, *COPY)} {'is' if copies == 1 else 'are'} written anew"
+        + (
+            f"; {counted(missing, *COPY)} {'has' if missing == 1 else 'have'} no"
+            f" device{' (as many as before)' if missing == before else f' ({before:,} before)' if before else ''}"
+            if missing
+            else ""
+        )
+        + (
+            f"; {full.past_text('backfillfull_ratio')}, past the backfill-full ratio"
+            if full.past["backfillfull_ratio"]
+            else ""
+        )
+        + ("; not all can be computed" if unknown else "")
+        + "."
+    )
     rows = [
-        ("groups that move", f"{moved:,} of {sum(it.pg_num for it in pools):,}"), ("copies that are written anew", f"{copies:,}" + (f", {sized(bytes_)}" if bytes_ is not None else "")),
-        ("the least that the change of weights asks for", f"{rounded(least.numerator, least.denominator, 1):,} copies"), ("copies without a device afterwards", f"{missing:,}" if missing else "none"),
+        ("groups that move", f"{moved:,} of {sum(it.pg_num for it in pools):,}"),
+        ("copies that are written anew", f"{copies:,}" + (f", {sized(bytes_)}" if bytes_ is not None else "")),
+        ("the least that the change of weights asks for", f"{rounded(least.numerator, least.denominator, 1):,} copies"),
+        ("copies without a device afterwards", f"{missing:,}" if missing else "none"),
     ]  # fmt: skip
     rows += full.rows()
     if new.map.rounded and not plan.map.rounded:
-        plan.notes.append(Note("rounded", f"{new.map.file} has weights with three decimals, and {plan.map.file} exact ones: what this rounding alone moves is part of the answer, as it would be in the cluster", open_=False))
+        plan.notes.append(
+            Note(
+                "rounded",
+                (
+                    f"{new.map.file} has weights with three decimals, and {plan.map.file} exact ones: what this"
+                    " rounding alone moves is part of the answer, as it would be in the cluster"
+                ),
+                open_=False,
+            )
+        )
     hosts = hosts_of(plan, new.map, changes)
-    by_pool = Table(("pool", "id", "move", "of", "copies", "bytes", "least"), [(it.pool.name, it.pool.id, len(it.moves), it.pool.pg_num, it.copies, sized(it.bytes), rounded(it.least.numerator, it.least.denominator, 1)) for it in changes], "By pool:") if len(changes) > 1 else None
+    by_pool = (
+        Table(
+            ("pool", "id", "move", "of", "copies", "bytes", "least"),
+            [
+                (
+                    it.pool.name,
+                    it.pool.id,
+                    len(it.moves),
+                    it.pool.pg_num,
+                    it.copies,
+                    sized(it.bytes),
+                    rounded(it.least.numerator, it.least.denominator, 1),
+                )
+                for it in changes
+            ],
+            "By pool:",
+        )
+        if len(changes) > 1
+        else None
+    )
     by_host = Table(("host", "lost", "gained"), hosts, "Copies lost and gained, by host:") if hosts else None
     blocks = [Table(("", ""), rows), by_pool, by_host]
-    groups = [(it.pool, group, old, now, written_anew(it.pool, old, now)) for it in changes for group, (old, now) in sorted(it.moves.items())]
+    groups = [
+        (it.pool, group, old, now, written_anew(it.pool, old, now))
+        for it in changes
+        for group, (old, now) in sorted(it.moves.items())
+    ]
     if asked.groups:
-        blocks.append(Table(("group", "before", "after", "copies"), [(pool.group_name(group), devices_text(old), devices_text(now), count) for pool, group, old, now, count in groups], "Groups that move:") if groups else "No group moves.")
+        blocks.append(
+            Table(
+                ("group", "before", "after", "copies"),
+                [
+                    (pool.group_name(group), devices_text(old), devices_text(now), count)
+                    for pool, group, old, now, count in groups
+                ],
+                "Groups that move:",
+            )
+            if groups
+            else "No group moves."
+        )
     fields = {
-        "new": new.map.file, "moved": moved, "copies": copies, "bytes": whole(bytes_), "least": rounded(least.numerator, least.denominator, 2), "missing_copies": missing, "missing_copies_before": before, **full.said(),
-        "pools": [it.said() for it in changes], "hosts": [{"name": name, "lost": lost, "gained": gained} for name, lost, gained in hosts],
+        "new": new.map.file, "moved": moved, "copies": copies, "bytes": whole(bytes_),
+        "least": rounded(least.numerator, least.denominator, 2), "missing_copies": missing,
+        "missing_copies_before": before, **full.said(),
+        "pools": [it.said() for it in changes],
+        "hosts": [{"name": name, "lost": lost, "gained": gained} for name, lost, gained in hosts],
     }  # fmt: skip
-    own = [GROUP_HEADS] + [[pool.id, group, pool.group_name(group), listed(old), listed(now), primary(plan, pool, group, old), primary(plan, pool, group, now), count] for pool, group, old, now, count in groups]
+    own = [GROUP_HEADS] + [
+        [
+            pool.id,
+            group,
+            pool.group_name(group),
+            listed(old),
+            listed(now),
+            primary(plan, pool, group, old),
+            primary(plan, pool, group, now),
+            count,
+        ]
+        for pool, group, old, now, count in groups
+    ]
     if asked.groups:
-        fields["groups"] = [{"pool": pool.id, "group": group, "id": pool.group_name(group), "before": old, "after": now, "primary_before": primary(plan, pool, group, old), "primary_after": primary(plan, pool, group, now), "copies": count} for pool, group, old, now, count in groups]
+        fields["groups"] = [
+            {
+                "pool": pool.id,
+                "group": group,
+                "id": pool.group_name(group),
+                "before": old,
+                "after": now,
+                "primary_before": primary(plan, pool, group, old),
+                "primary_after": primary(plan, pool, group, now),
+                "copies": count,
+            }
+            for pool, group, old, now, count in groups
+        ]
     else:
         own = [HOST_HEADS, *hosts]
-    return Answer(status, sentence, fields, blocks, own, lambda: drawn(plan, new.map, changes))
+    answer = Answer(status, sentence, fields, blocks, own, lambda: drawn(plan, new.map, changes))
+    return answer.of(plan.cluster.pools, {it.pool.id for it in changes if it.moves})
 
 
 def drawn(plan, map_, changes):
@@ -171,7 +270,9 @@ class Compared:
         written = [(group, written_anew(pool, *both)) for group, both in self.moves.items()]
         self.copies = sum(copies for _, copies in written)
         self.change = PoolChange(pool, before, set(), [])
-        self.bytes, self.gains = bytes_anew(self.change, written), gains(pool, [(group, *both) for group, both in self.moves.items()])
+        self.bytes, self.gains = bytes_anew(self.change, written), gains(
+            pool, [(group, *both) for group, both in self.moves.items()]
+        )
         self.missing, self.missing_before = (pool.size * pool.pg_num - it.total() for it in (after, before))
         old = Shares(plan.map, plan.map.rules[pool.rule], pool.size, plan.state)
         new = Shares(map_, map_.rules[pool.rule], pool.size, lambda it: plan.state(it) if it in plan.known else State())
@@ -180,7 +281,16 @@ class Compared:
         self.least = fractions.Fraction(sum(it for it in grown if it > 0), old.whole * new.whole) * before.total()
 
     def said(self):
-        return {"pool": self.pool.id, "name": self.pool.name, "moved": len(self.moves), "copies": self.copies, "bytes": whole(self.bytes), "least": rounded(self.least.numerator, self.least.denominator, 2), "missing_copies": self.missing, "missing_copies_before": self.missing_before}
+        return {
+            "pool": self.pool.id,
+            "name": self.pool.name,
+            "moved": len(self.moves),
+            "copies": self.copies,
+            "bytes": whole(self.bytes),
+            "least": rounded(self.least.numerator, self.least.denominator, 2),
+            "missing_copies": self.missing,
+            "missing_copies_before": self.missing_before,
+        }
 
 
 class Filled:
@@ -196,7 +306,10 @@ class Filled:
             if gained is not None and room.size > 0 and old and new and abs(old - new) <= ROUNDED:
                 self.used[device] = room.used_after(), room.used_after(gained)
         self.fullest = max(self.used, key=lambda it: (self.used[it][1], -it), default=None)
-        self.past = {name: [it for it, (old, new) in self.used.items() if new > old and cluster.is_past(name, new)] for name in ("nearfull_ratio", "backfillfull_ratio")}
+        self.past = {
+            name: [it for it, (old, new) in self.used.items() if new > old and cluster.is_past(name, new)]
+            for name in ("nearfull_ratio", "backfillfull_ratio")
+        }
 
     def past_text(self, name):
         return some([used_said(it, self.used[it][1]) for it in self.past[name]], 3)
@@ -206,12 +319,26 @@ class Filled:
             return []
         near = self.plan.cluster.ratios.get("nearfull_ratio")
         ratio = f"; near-full is {hundredths(near)}%" if near is not None else ""
-        found = [("fullest of the devices whose weight stays", f"{self.plan.map.name_of(self.fullest)} ({self.plan.tree.host(self.fullest)}): {hundredths(ratio_said(self.used[self.fullest][1]))}% used{ratio}")]
-        return found + ([("past the near-full ratio", self.past_text("nearfull_ratio"))] if self.past["nearfull_ratio"] else [])
+        found = [
+            (
+                "fullest of the devices whose weight stays",
+                (
+                    f"{self.plan.map.name_of(self.fullest)} ({self.plan.tree.host(self.fullest)}):"
+                    f" {hundredths(ratio_said(self.used[self.fullest][1]))}% used{ratio}"
+                ),
+            )
+        ]
+        return found + (
+            [("past the near-full ratio", self.past_text("nearfull_ratio"))] if self.past["nearfull_ratio"] else []
+        )
 
     def said(self):
         old, new = self.used.get(self.fullest, (None, None))
-        fullest = self.fullest if self.fullest is None else {"device": self.fullest, "used_before": ratio_said(old), "used_after": ratio_said(new)}
+        fullest = (
+            self.fullest
+            if self.fullest is None
+            else {"device": self.fullest, "used_before": ratio_said(old), "used_after": ratio_said(new)}
+        )
         return {"fullest": fullest, **{f"past_{name.removesuffix('_ratio')}": self.past[name] for name in self.past}}
 
 

@@ -7,7 +7,14 @@ ONE = 65536
 KINDS = {1: "replicated", 3: "erasure"}
 MSR_KINDS = {4: "replicated", 5: "erasure"}  # of rules of release 19 that choose several levels at once
 MSR = "it is an MSR rule (choosemsr, of release 19), which isn't computed: a rule of chooseleaf steps is"
-TUNABLES = ("choose_local_tries", "choose_local_fallback_tries", "choose_total_tries", "chooseleaf_descend_once", "chooseleaf_vary_r", "chooseleaf_stable")
+TUNABLES = (
+    "choose_local_tries",
+    "choose_local_fallback_tries",
+    "choose_total_tries",
+    "chooseleaf_descend_once",
+    "chooseleaf_vary_r",
+    "chooseleaf_stable",
+)
 MOST_DEVICES = 65536  # ids of devices are below it
 
 
@@ -105,7 +112,7 @@ class CrushMap:
 
     def all_below(self, item):
         """Returns both, which are found once: nothing is changed below an item that was asked for
-        (edits.py changes copies)."""
+        (wrapper.py changes copies)."""
         if item not in self.kept:
             devices, buckets = {}, {}
 
@@ -165,7 +172,12 @@ def mark_holes(buckets, devices_known):
         if not places:
             continue
         weighed = any(item == 0 and weight > 0 for item, weight in bucket.items)
-        elsewhere = any(item == 0 and weight > 0 for other in buckets.values() if other is not bucket and not other.shadow for item, weight in other.items)
+        elsewhere = any(
+            item == 0 and weight > 0
+            for other in buckets.values()
+            if other is not bucket and not other.shadow
+            for item, weight in other.items
+        )
         among_buckets = any(item is not None and item < 0 for item, _ in bucket.items)
         first = 0 if weighed or elsewhere or among_buckets or not devices_known else 1
         for place in places[first:]:

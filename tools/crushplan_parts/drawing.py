@@ -104,4 +104,3 @@ def place_of(plan, device, tree=None):
     tree = tree or plan.tree
     host = tree.host(device)
     return tree.map.name_of(device), (plan.tree.host(device) if host == "-" else host)
-

@@ -6,7 +6,8 @@ import heapq
 import itertools
 
 MOST_TRIES = 40  # ways that are tried one after the other, of which a step bars another
-MOST_LOOKED_AT, MOST_IN_VAIN = 200, 4000  # groups of which the best is taken, and that may all be none
+MOST_LOOKED_AT = 200  # groups of which the best is taken
+MOST_EXCHANGES = 10_000  # of parts, that are tried: a millisecond each
 
 
 class Ground:
@@ -256,6 +257,51 @@ class Search:
             sources.put(it)
         return group is not None
 
+    # ---- fewer lines
+
+    def gather(self):
+        """Has groups that change anyhow move copies in the place of groups of which few move: what
+        a group moves stands in one line. No device gets another number of copies by it."""
+        while True:
+            before = len(self.changed)
+            for group in sorted(self.changed, key=lambda it: (len(self.moves_of(it)), it)):
+                self.watch(self)
+                self.leave(group)
+            if len(self.changed) == before:
+                return
+
+    def moves_of(self, group):
+        """Returns where each copy of a group that has moved was at first, and where it is."""
+        return [both for both in zip(self.start[group], self.at[group]) if both[0] != both[1]]
+
+    def leave(self, group):
+        """Has other groups that have changed move all copies of a group in its place, or changes
+        nothing where one of them can't be moved so."""
+        cost, done = self.cost, []
+        for source, target in self.moves_of(group):
+            others = self.masks[group] & ~self.bit[target]
+            if self.zone.get(source) != self.zone[target] or others & self.bit[source]:
+                break
+            self.move(group, target, source)
+            done.append((group, target, source))
+            other = self.changed_for(source, target, group)
+            if other is None:
+                break
+            self.move(other, source, target)
+            done.append((other, source, target))
+        if self.moves_of(group) or self.cost > cost or len(done) % 2:
+            for it, source, target in reversed(done):
+                self.move(it, target, source)
+
+    def changed_for(self, source, target, group):
+        """Returns another group that has changed whose copy may go from one device to another, or
+        None."""
+        others = 0 if self.bit[target] == self.bit[source] else self.bit[target]
+        for it, place in self.begun[source].items():
+            if it != group and it in self.changed and not self.masks[it] & others and self.fits(it, place, target):
+                return it
+        return None
+
     # ---- ways by several devices, each of which takes a copy and passes another on
 
     def by_ways(self, sources, is_end, most=None):
@@ -337,7 +383,6 @@ class PartSearch(Search):
 
     def __init__(self, ground, low, high, level, inner, places, watch=None):
         self.inner, self.places = inner, places
-        self.least_gain = None  # how many devices less that have too many a part must leave, or None
         super().__init__(ground, low, high, level, watch)
 
     def group_for(self, source, target):
@@ -345,16 +390,16 @@ class PartSearch(Search):
         copies lie on devices that have too many, if some of the first have that."""
         if self.zone[source] != self.zone[target]:
             return None
-        best, most, own, least = None, float("-inf"), self.bit[target], self.least_gain
+        best, most, own = None, float("-inf"), self.bit[target]
         groups = itertools.chain(self.moved[source].items(), self.held[source].items())
         for seen, (group, place) in enumerate(groups):
-            if best is not None and seen > MOST_LOOKED_AT or least is not None and seen > MOST_IN_VAIN:
+            if best is not None and seen > MOST_LOOKED_AT:
                 break
             if self.masks[group] & own:
                 continue
             places = self.places[group][place]
             gain = self.inner.gain_of(group, places)
-            if gain > most and (least is None or gain >= least) and self.inner.room_in(target, group, places):
+            if gain > most and self.inner.room_in(target, group, places):
                 best, most = group, gain
                 if gain == len(places):
                     break
@@ -365,9 +410,40 @@ class PartSearch(Search):
         super().move(group, source, target)
         self.inner.move_part(group, places, target)
 
+    def exchange(self, least, most):
+        """Has other parts move in the place of those that took copies from devices that haven't too
+        many, also from other upper domains that may have so few parts, where less is left to do."""
+        self.tries = MOST_EXCHANGES
+        for target in self.zone:
+            for group, place in list(self.moved[target].items()):
+                self.watch(self)
+                source = self.start[group][place]
+                if self.tries > 0 and not self.masks[group] & self.bit[source]:
+                    self.exchange_one(group, source, target, least, most)
+
+    def exchange_one(self, group, source, target, least, most):
+        full = 2 * len(self.places[group][self.held[target][group]]) * self.inner.WEIGHT
+        before = self.inner.left_in(source, target)
+        self.move(group, target, source)
+        undone = self.inner.left_in(source, target) - before
+        best, others = (-undone, source, group), [source] if self.count[source] > most[source] else self.zone
+        for it in others if undone < full else ():
+            if it == target or self.zone[it] != self.zone[target] or it != source and self.count[it] <= least[it]:
+                continue
+            other, self.tries = self.group_for(it, target), self.tries - 1
+            if other is None:
+                continue
+            before = self.inner.left_in(it, target)
+            self.move(other, it, target)
+            best = min(best, (self.inner.left_in(it, target) - before, it, other), key=lambda of: of[0])
+            self.move(other, target, it)
+        self.move(best[2], best[1], target)
+
 
 class InnerSearch(Search):
     """A search over the devices of a rule of two levels: its zones are the upper domains."""
+
+    WEIGHT = 1 << 16  # more than there are copies in one, for what is left by two measures
 
     def gain_of(self, group, places):
         """Returns how many of the devices at some places have too many, less those that then lack
@@ -376,6 +452,17 @@ class InnerSearch(Search):
         for place in places:
             device = self.at[group][place]
             found += (self.count[device] > self.high[device]) - (self.count[device] <= self.low[device])
+        return found
+
+    def left_in(self, *uppers):
+        """Returns how much is left to do in upper domains: first by how many copies have to move
+        inside at least, then by how many devices have too many or lack."""
+        found = 0
+        for upper in set(uppers):
+            own = self.ground.members[upper]
+            over = sum([max(0, self.count[it] - self.high[it]) for it in own])
+            under = sum([max(0, self.low[it] - self.count[it]) for it in own])
+            found += max(over, under) * self.WEIGHT + over + under
         return found
 
     def room_in(self, upper, group, places):

@@ -24,9 +24,13 @@ def ran(words):
     """Returns what a command writes; a Fault says what it said where it failed."""
     waiting.at(shlex.join(words))
     try:
-        done = subprocess.run(words, stdin=subprocess.DEVNULL, stdout=subprocess.PIPE, stderr=subprocess.PIPE, timeout=SECONDS)
+        done = subprocess.run(
+            words, stdin=subprocess.DEVNULL, stdout=subprocess.PIPE, stderr=subprocess.PIPE, timeout=SECONDS
+        )
     except FileNotFoundError:
-        raise Fault(f"{words[0]} isn't there: run 'crushplan fetch' where the cluster's commands are, or name them by --ceph") from None
+        raise Fault(
+            f"{words[0]} isn't there: run 'crushplan fetch' where the cluster's commands are, or name them by --ceph"
+        ) from None
     except OSError as error:
         raise Fault(f"{words[0]} can't be run: {error.strerror or error}") from None
     except subprocess.TimeoutExpired:
@@ -73,8 +77,17 @@ def fetch(asked):
     if now.get("crush_version") != before.get("crush_version"):
         failed.append("the map changed while it was read: fetch again")
     elif now.get("epoch") != before.get("epoch"):
-        failed.append("states or exceptions changed while they were read: where 'crushplan check' then finds groups that differ, fetch again")
-    return Answer(0, f"{len(lines)} files are in {folder}.", {"files": lines, "failed": failed}, ["\n".join(lines), "\n".join(failed)], [["file"], *([it] for it in lines)])
+        failed.append(
+            "states or exceptions changed while they were read: where 'crushplan check' then finds groups that differ,"
+            " fetch again"
+        )
+    return Answer(
+        0,
+        f"{len(lines)} files are in {folder}.",
+        {"files": lines, "failed": failed},
+        ["\n".join(lines), "\n".join(failed)],
+        [["file"], *([it] for it in lines)],
+    )
 
 
 def dumped(data):

@@ -42,10 +42,21 @@ def parsed(text):
 
 
 class Node:
-    """A value of a file, with where it stands."""
+    """A value of a file. Where it stands is put into words when these are wanted: `inside` is the
+    node that has it, or None, and `name` its name there, or its place in a list."""
 
-    def __init__(self, value, where):
-        self.value, self.where = value, where
+    __slots__ = ("value", "name", "inside")
+
+    def __init__(self, value, name, inside=None):
+        self.value, self.name, self.inside = value, name, inside
+
+    @property
+    def where(self):
+        if self.inside is None:
+            return self.name
+        return (
+            f"{self.inside.where}[{self.name}]" if isinstance(self.name, int) else f"{self.inside.where}: {self.name}"
+        )
 
     def of_kind(self, kind):
         """Returns the value, which has to be of a kind."""
@@ -67,7 +78,7 @@ class Node:
         """Returns the member of a name."""
         if not self.has(name):
             raise Fault(f"{self.where} has no field {name!r}")
-        return Node(self.value[name], f"{self.where}: {name}")
+        return Node(self.value[name], name, self)
 
     def get(self, name, kind, default=REQUIRED):
         """Returns the value of a member; where it is missing the default, if there is one."""
@@ -91,7 +102,7 @@ class Node:
             return
         inner = self.at(name)
         for place, value in enumerate(inner.of_kind(list)):
-            yield Node(value, f"{inner.where}[{place}]")
+            yield Node(value, place, inner)
 
     def flag(self, name, default):
         """Returns whether a member is true or 1."""

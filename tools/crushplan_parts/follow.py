@@ -1,7 +1,7 @@
 """Follows a runbook: the maps after each line, with what the monitors remove of upmap items, and
 where all groups lie at each moment."""
 from .commands import after
-from .commands_osd import await_clean, go_out
+from .commands_osd import await_clean, go_out, kept_in
 from .maps import cluster_of, maps_of
 from .placing import Plan
 from .texts import reached_buckets
@@ -115,6 +115,12 @@ class Follower:
         runbook took down go out, and others come up."""
         found, remarks = await_clean(maps)
         late = [it for it in taken_down if it in found.osds and not found.osds[it].up and found.osds[it].reweight]
+        kept = kept_in(found, late)
+        if kept and "noout" not in found.flags:
+            names, late = ", ".join(f"osd.{it}" for it in kept), [it for it in late if it not in kept]
+            remarks.append(
+                f"{names}, down for long, {'stays' if len(kept) == 1 else 'stay'} in: the whole rack is down"
+            )
         if late and "noout" not in found.flags:
             found = go_out(found, late)
             names = ", ".join(f"osd.{it}" for it in late)

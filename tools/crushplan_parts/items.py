@@ -59,5 +59,3 @@ def is_device(it):
 
 def up_of(plan, items):
     return [it for it in items if it is not None and plan.state(it).up]
-
-

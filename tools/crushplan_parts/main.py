@@ -15,11 +15,18 @@ INTERRUPTED = 130
 
 
 def client_of(asked, beside):
+    if asked.service and getattr(asked, "on", None):
+        raise Fault("--on asks programs at other machines, and takes no --service")
     if asked.service:
         from .server import Server
 
         return Server(asked.service)
-    return Script(found_program(asked.program or os.environ.get("CRUSHCALC"), beside))
+    program = found_program(asked.program or os.environ.get("CRUSHCALC"), beside)
+    if getattr(asked, "on", None):
+        from .machines import Machines
+
+        return Machines(asked.on, program)
+    return Script(program)
 
 
 def said_version(beside):
@@ -64,15 +71,17 @@ def answered(asked, beside):
 
 
 def write_out(text):
-    """Writes an answer; a Fault where it can't be written whole."""
+    """Writes an answer, a text or bytes; a Fault where it can't be written whole."""
     try:
-        sys.stdout.write(text)
+        (sys.stdout.buffer if isinstance(text, bytes) else sys.stdout).write(text)
         sys.stdout.flush()
     except BrokenPipeError:
         raise
     except (OSError, ValueError) as error:
         close_out()
-        raise Fault(f"the answer can't be written to standard output: {getattr(error, 'strerror', None) or error}") from None
+        raise Fault(
+            f"the answer can't be written to standard output: {getattr(error, 'strerror', None) or error}"
+        ) from None
 
 
 def open_streams():
@@ -95,6 +104,8 @@ def close_out():
 
 class Closed:
     """Standard output where there is none."""
+
+    buffer = property(lambda self: self)  # for bytes
 
     def write(self, text):
         raise OSError("it is closed")
@@ -180,4 +191,6 @@ def main(words, beside):
     except Exception as error:  # whatever it is given, the program says a sentence
         if "CRUSHPLAN_TRACE" in os.environ:
             raise
-        return failed(asked, f"it can't go on: {type(error).__name__}: {str(error)[:200]}. This is a mistake in crushplan.")
+        return failed(
+            asked, f"it can't go on: {type(error).__name__}: {str(error)[:200]}. This is a mistake in crushplan."
+        )

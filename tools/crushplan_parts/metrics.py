@@ -56,7 +56,7 @@ class Watched:
         units = {it: units_of(plan, it) for it in dict.fromkeys(types)}
         start = start_of(plan, [unit for own in units.values() for unit in own])
         self.failures = {it: failures_of(plan, it, own, start) for it, own in units.items()}
-        self.share = usage(plan, argparse.Namespace(pool=[], by=None, groups=False)).fields
+        self.share = usage(plan, argparse.Namespace(names=[], by=None, groups=False)).fields
         self.taken = taken(plan)
         self.proved = proved(plan.client.is_unproved())
 

@@ -23,6 +23,18 @@ class Answer:
     def __init__(self, status, sentence, fields, blocks, rows, drawing=None):
         self.status, self.sentence, self.fields = status, sentence, fields
         self.blocks, self.rows, self.drawing, self.plain = blocks, rows, drawing, None
+        self.pools = self.bytes_of = None  # ids of the pools that it is of, and of whose bytes; or all
+
+    def of(self, pools, bytes_of=None):
+        """Says which pools it is of, and returns itself: by that notes are left out."""
+        self.pools = {*pools}
+        self.bytes_of = self.pools if bytes_of is None else {*bytes_of}
+        return self
+
+    def concerns(self, note):
+        """Returns whether a note is of what it says."""
+        own = self.bytes_of if note.kind == "pg_num" else self.pools
+        return note.open or not note.pools or own is None or not own.isdisjoint(note.pools)
 
 
 class Table:
@@ -43,7 +55,10 @@ class Table:
     def text(self, width):
         cells = [[shown(it) for it in row] for row in self.rows]
         right = [all(is_number(row[place]) for row in self.rows) for place in range(len(self.heads))]
-        widths = [max(len(head), *(len(row[place]) for row in cells)) if cells else len(head) for place, head in enumerate(self.heads)]
+        widths = [
+            max(len(head), *(len(row[place]) for row in cells)) if cells else len(head)
+            for place, head in enumerate(self.heads)
+        ]
         if width and self.spare and sum(widths) + 2 * len(widths) > width:
             return self.without(self.spare[0]).text(width)
         over = sum(widths) + 2 * len(widths) - width if width else 0
@@ -62,7 +77,10 @@ class Table:
         for row in ([list(self.heads)] if any(self.heads) else []) + cells:
             *first, last = row
             for part in wrap(last, widths[-1]) if wrapped else [last]:
-                parts = [cut(it, size).rjust(size) if of else cut(it, size).ljust(size) for it, size, of in zip([*first, part], widths, right)]
+                parts = [
+                    cut(it, size).rjust(size) if of else cut(it, size).ljust(size)
+                    for it, size, of in zip([*first, part], widths, right)
+                ]
                 lines.append(("  " + "  ".join(parts)).rstrip())
                 first = [""] * len(first)
         return "\n".join(lines)
@@ -144,7 +162,7 @@ def csv_text(rows):
 
 def written(answer, command, form, plan):
     """Returns an answer as text, CSV or JSON. `plan` has the notes, or is None."""
-    notes = plan.notes if plan else []
+    notes = [it for it in plan.notes if answer.concerns(it)] if plan else []
     warnings = plan.cluster.warnings if plan else []
     if form == "json":
         head = {"crushplan": 1, "command": command, "status": answer.status, "answer": answer.sentence}
@@ -166,7 +184,11 @@ def people_text(answer, notes, warnings):
     for it in answer.blocks:
         blocks.append(it.text(width()) if isinstance(it, Table) else it)
     text = "\n\n".join(it for it in blocks if it)
-    remarks = [f"not computed: {it.short}" for it in notes if it.open] + [f"note: {it}" for it in warnings] + [f"note: {it.text}" for it in notes if not it.open]
+    remarks = (
+        [f"not computed: {it.short}" for it in notes if it.open]
+        + [f"note: {it}" for it in warnings]
+        + [f"note: {it.text}" for it in notes if not it.open]
+    )
     return text + "\n" + ("\n" + "\n".join(remarks) + "\n" if remarks else "")
 
 
@@ -188,10 +210,10 @@ class Progress:
         sys.stderr.write(f"\r[{'#' * filled}{'.' * (24 - filled)}] {done} of {self.whole} {self.what}{left} \033[K")
         sys.stderr.flush()
 
-    def one_more(self):
-        """One more is done, by whichever thread."""
+    def more(self, count=1):
+        """One more is done, or several, by whichever thread."""
         with self.lock:
-            self.done += 1
+            self.done += count
             self.at(self.done)
 
     def end(self):

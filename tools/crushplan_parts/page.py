@@ -99,7 +99,6 @@ def command_text(asked):
     """Returns the command, without what says where the program is and who asks it."""
     own = [asked.command, asked.folder, *getattr(asked, "names", ())]
     own += [it for it in (getattr(asked, "new", None), getattr(asked, "file", None)) if it]
-    own += [f"--pool {it}" for it in getattr(asked, "pool", ())]
     own += [f"{option} {value}" for name, option in OPTIONS if (value := getattr(asked, name, None))]
     return " ".join(["crushplan", *own])
 
@@ -117,7 +116,7 @@ def page_text(answer, asked, plan):
     if drawing and drawing.bars:
         parts.append(drawing_text(drawing))
     parts += [block_text(it) for it in blocks[first:]]
-    notes = [*plan.cluster.warnings, *(it.text for it in plan.notes if not it.open)]
+    notes = [*plan.cluster.warnings, *(it.text for it in plan.notes if not it.open and answer.concerns(it))]
     parts += [list_text("Notes", notes), list_text("Not computed", [it.short for it in plan.notes if it.open])]
     body = "\n".join(it for it in parts if it)
     return (
@@ -192,7 +191,10 @@ def bar_text(drawing, bar):
     data = {"name": bar.name, "before": bar.before, "after": bar.after}
     data = " ".join(f'data-{key}="{escaped(value)}"' for key, value in data.items() if value is not None)
     end, shapes = drawing.end(), ['<rect class="track" y="12%" width="100%" height="76%"/>']
-    for kind, value, top, height in (("old", bar.before, 12, 34), ("new", bar.after, *((46, 42) if both else (12, 76)))):
+    for kind, value, top, height in (
+        ("old", bar.before, 12, 34),
+        ("new", bar.after, *((46, 42) if both else (12, 76))),
+    ):
         if value is not None:
             shapes.append(f'<rect class="{kind}" y="{top}%" width="{share_of(value, end)}%" height="{height}%"/>')
     for name, at in drawing.lines:

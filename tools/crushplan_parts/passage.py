@@ -5,6 +5,7 @@ import fractions
 import functools
 
 from .commands_pool import data_parts
+from .meanwhile import Meanwhile, alive_in, from_line
 from .shares import Expected, percent
 from .summary import copies_in, looks_at_room, shares_of, written_anew
 
@@ -91,11 +92,12 @@ def entries_of(moment):
 
 class Passage:
     """What happens between two moments. `maps` are those while data moves, before OSDs that are
-    down go out."""
+    down go out; `alive` has the OSDs that serve data, as Meanwhile wants them."""
 
-    def __init__(self, ledger, before, after, maps):
+    def __init__(self, ledger, before, after, maps, alive=None):
         self.ledger, self.before, self.after, self.maps = ledger, before, after, maps
         self.moves, self.written, self.read = [], {}, {}
+        self.meanwhile = Meanwhile(alive or [(None, alive_in(maps))])
         known = before.lists.keys() & after.lists.keys()
         self.pools = [after.plan.cluster.pools[it] for it in sorted(known)]
         self.unknown = [it for it, sign in after.signs.items() if sign != before.signs.get(it) and it not in known]
@@ -114,7 +116,8 @@ class Passage:
         for group, new in after.items():
             old, weight = before[group], 2 if group in twice else 1
             alive = [it if it is not None and self.is_alive(it) else None for it in old.up]
-            self.take_state(pool, group, old, new, alive, least)
+            self.meanwhile.take(pool, group, old.up)
+            self.take_state(pool, group, old, new, least)
             if new.up == old.up:
                 continue
             count = written_anew(pool, old.up, new.up)
@@ -125,18 +128,19 @@ class Passage:
                 read.update(dict.fromkeys(sources(pool, place, new, alive, least), weight))
         self.written[pool.id], self.read[pool.id] = written, read
 
-    def take_state(self, pool, group, old, new, alive, least):
+    def take_state(self, pool, group, old, new, least):
         """Counts what a group lacks: copies that are left while data moves, and afterwards."""
-        left = copies_in(alive)
+        name = pool.group_name(group)
         kept = copies_in([it if it in self.maps.osds and not self.maps.osds[it].destroyed else None for it in old.up])
         if kept < min(least, copies_in(old.up)):
-            self.lost.append(pool.group_name(group))
-        if (min(left, copies_in(old.up)) < pool.min_size or copies_in(new.up) < pool.min_size) and not pool.stretched:
-            self.stopped.append(pool.group_name(group))
+            self.lost.append(name)
+        fewest = min(copies_in(old.up), copies_in(new.up))
+        if name in self.meanwhile.stopped or fewest < pool.min_size and not pool.stretched:
+            self.stopped.append(name)
         lacks = pool.size - copies_in(new.up)
         if lacks > 0:
             self.missing += lacks
-            self.short.append(pool.group_name(group))
+            self.short.append(name)
 
     def is_alive(self, device):
         it = self.maps.osds.get(device)
@@ -221,15 +225,14 @@ class Passage:
         if self.lost:
             yield 1, f"{groups_text(self.lost)} {verb(self.lost, 'lose')} data: too few copies are on OSDs that exist"
         if self.stopped:
-            has = "has" if len(self.stopped) == 1 else "have"
-            yield 1, f"{groups_text(self.stopped)} {has} fewer copies than min_size, which stops I/O"
+            has, only = "has" if len(self.stopped) == 1 else "have", len(self.meanwhile.stopped) == len(self.stopped)
+            first = from_line(self.meanwhile.stopped_from) if only else ""
+            yield 1, f"{first}{groups_text(self.stopped)} {has} fewer copies than min_size, which stops I/O"
         if self.missing:
             as_before = (
                 " (as many as before)"
                 if self.missing == self.missing_before
-                else f" ({self.missing_before:,} before)"
-                if self.missing_before
-                else ""
+                else f" ({self.missing_before:,} before)" if self.missing_before else ""
             )
             never = ", and the 'wait' doesn't end" if waits else ""
             has = "copy has" if self.missing == 1 else "copies have"

@@ -30,7 +30,9 @@ class Compared:
         plan, exceptions = self.plan, self.plan.exceptions
         gone = [it for it in said.up if it is not None and not (plan.state(it).up and plan.state(it).reweight)]
         if gone:
-            return f"{some([f'osd.{it}' for it in gone], 2)} is down or out in osd.json: the dumps are of different times"
+            return (
+                f"{some([f'osd.{it}' for it in gone], 2)} is down or out in osd.json: the dumps are of different times"
+            )
         if pool.split_to:
             return "its pool is being split or merged"
         if group in plan.cluster.temporary.get("pg_temp", {}).get(pool.id, ()):
@@ -48,7 +50,9 @@ class Compared:
         found = []
         for pool, group, said, it, why in self.others:
             primary = f", primary {said.primary} here {it.primary}" if said.up == it.up else ""
-            found.append(f"{pool.group_name(group)} up {devices_text(said.up)} here {devices_text(it.up)}{primary}: {why}")
+            found.append(
+                f"{pool.group_name(group)} up {devices_text(said.up)} here {devices_text(it.up)}{primary}: {why}"
+            )
         return found
 
     def sentence(self):
@@ -76,7 +80,8 @@ class Compared:
             "groups": self.count, "same": self.same, "silent": self.silent,
             "others": [
                 {
-                    "pool": pool.id, "group": group, "id": pool.group_name(group), "up": said.up, "up_primary": said.primary,
+                    "pool": pool.id, "group": group, "id": pool.group_name(group), "up": said.up,
+                    "up_primary": said.primary,
                     "here": it.up, "here_primary": it.primary, "why": why,
                 }
                 for pool, group, said, it, why in self.others

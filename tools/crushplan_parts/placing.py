@@ -20,11 +20,24 @@ class Note:
     is whether an answer lacks it; `short` is the text where it stands under that head."""
 
     def __init__(self, kind, text, *, pools=(), devices=(), groups=(), open_=True, short=None):
-        self.kind, self.text, self.pools, self.devices, self.groups, self.open = kind, text, sorted(pools), sorted(devices), list(groups), open_
+        self.kind, self.text, self.pools, self.devices, self.groups, self.open = (
+            kind,
+            text,
+            sorted(pools),
+            sorted(devices),
+            list(groups),
+            open_,
+        )
         self.short = short or text
 
     def said(self):
-        return {"kind": self.kind, "text": self.text, "pools": self.pools, "devices": self.devices, "groups": self.groups}
+        return {
+            "kind": self.kind,
+            "text": self.text,
+            "pools": self.pools,
+            "devices": self.devices,
+            "groups": self.groups,
+        }
 
 
 class Plan:
@@ -72,7 +85,10 @@ class Plan:
         return some([self.map.name_of(it) for it in sorted(devices)], MOST_NAMES)
 
     def pools_text(self, pools):
-        return f"{'pool' if len(pools) == 1 else 'the pools'} {some([self.cluster.pools[it].name if it in self.cluster.pools else it for it in pools])}" if pools else "no pool"
+        if not pools:
+            return "no pool"
+        names = [self.cluster.pools[it].name if it in self.cluster.pools else it for it in pools]
+        return f"{'pool' if len(pools) == 1 else 'the pools'} {some(names)}"
 
     def more_pools(self):
         """Leaves out the pools that are more than a tenant has."""
@@ -95,7 +111,14 @@ class Plan:
                 raise Fault(f"{self.client.where} refuses the map: {said}")
             name, touched = self.touched_by(texts, text, said["line"], pools)
             for pool in touched:
-                leave_out(pool, "map", f"crushcalc refuses the {name} by its code {said['fault']} ('crushcalc check --help' says what it means)")
+                leave_out(
+                    pool,
+                    "map",
+                    (
+                        f"crushcalc refuses the {name} by its code {said['fault']} ('crushcalc check --help' says what"
+                        " it means)"
+                    ),
+                )
                 pools.pop(pool.id, None)
         raise Fault(f"{map_.file}: crushcalc refuses more than {MOST_FAULTS} declarations of it")
 
@@ -131,7 +154,18 @@ class Plan:
         for group, pairs in self.cluster.pairs.get(pool.id, {}).items():
             odd = [it for it in pairs if it[1] not in self.known]
             if odd:
-                self.notes.append(Note("upmap", f"{pool.group_name(group)} has upmap items to devices that aren't there: {some([f'osd.{it[1]}' for it in odd])}", pools=[pool.id], groups=[pool.group_name(group)], open_=False))
+                self.notes.append(
+                    Note(
+                        "upmap",
+                        (
+                            f"{pool.group_name(group)} has upmap items to devices that aren't there:"
+                            f" {some([f'osd.{it[1]}' for it in odd])}"
+                        ),
+                        pools=[pool.id],
+                        groups=[pool.group_name(group)],
+                        open_=False,
+                    )
+                )
             own = [it for it in pairs if it[0] in self.known and it[1] in self.known and it[0] != it[1]]
             if own and group < pool.pg_num:
                 found[group] = own
@@ -143,11 +177,46 @@ class Plan:
         cluster = self.cluster
         for pool in pools.values():
             if pool.split_to:
-                self.notes.append(Note("split", f"pool {pool.name} is being split or merged (pg_num {pool.pg_num} on its way to {pool.split_to[0]}, pgp_num {pool.pgp_num} to {pool.split_to[1]}): it is computed as it is now, and its groups move by themselves", pools=[pool.id], devices=self.devices_of(pool), open_=False))
+                self.notes.append(
+                    Note(
+                        "split",
+                        (
+                            f"pool {pool.name} is being split or merged (pg_num {pool.pg_num} on its way to"
+                            f" {pool.split_to[0]}, pgp_num {pool.pgp_num} to {pool.split_to[1]}): it is computed as it"
+                            " is now, and its groups move by themselves"
+                        ),
+                        pools=[pool.id],
+                        devices=self.devices_of(pool),
+                        open_=False,
+                    )
+                )
             if pool.object_hash != 2:
-                self.notes.append(Note("object hash", f"pool {pool.name} has another object hash than rjenkins: where its groups lie is computed, where its objects lie isn't", pools=[pool.id], devices=self.devices_of(pool), open_=False))
+                self.notes.append(
+                    Note(
+                        "object hash",
+                        (
+                            f"pool {pool.name} has another object hash than rjenkins: where its groups lie is computed,"
+                            " where its objects lie isn't"
+                        ),
+                        pools=[pool.id],
+                        devices=self.devices_of(pool),
+                        open_=False,
+                    )
+                )
             if pool.bytes is not None and pool.pg_num & (pool.pg_num - 1):
-                self.notes.append(Note("pg_num", f"pool {pool.name} has {pool.pg_num} groups, which is no power of two: some of them have twice the objects of others. What moves, and how full devices get, is said by that, but bytes before and after as if all had as many", pools=[pool.id], devices=self.devices_of(pool), open_=False))
+                self.notes.append(
+                    Note(
+                        "pg_num",
+                        (
+                            f"pool {pool.name} has {pool.pg_num} groups, which is no power of two: some of them have"
+                            " twice the objects of others. What moves, and how full devices get, is said by that, but"
+                            " bytes before and after as if all had as many"
+                        ),
+                        pools=[pool.id],
+                        devices=self.devices_of(pool),
+                        open_=False,
+                    )
+                )
         for kind in ("pg_temp", "primary_temp"):
             own = {pool: groups for pool, groups in cluster.temporary.get(kind, {}).items() if pool in pools}
             has = f"a temporary {'list' if kind == 'pg_temp' else 'primary'} ({kind})"
@@ -157,15 +226,36 @@ class Plan:
         """Notes which groups may lie otherwise by weight sets that are rounded."""
         for key, pools in sets_in_use(self.map, self.pools.values()).items():
             if self.map.weight_sets[key].rounded:
-                self.notes.append(Note("weight set", f"{self.map.file} has rounded weights of 256 and more in the weight set choose_args {key}: a few groups of {self.pools_text([it.id for it in pools])} may lie otherwise", pools=[it.id for it in pools], open_=False))
+                self.notes.append(
+                    Note(
+                        "weight set",
+                        (
+                            f"{self.map.file} has rounded weights of 256 and more in the weight set choose_args {key}:"
+                            f" a few groups of {self.pools_text([it.id for it in pools])} may lie otherwise"
+                        ),
+                        pools=[it.id for it in pools],
+                        open_=False,
+                    )
+                )
 
     def note_groups(self, kind, lists, has, what):
         """Notes groups that have something: of each pool, of each group, its devices."""
         written = [f"{pool}.{group:x}" for pool, groups in sorted(lists.items()) for group in sorted(groups)]
         devices = {it for groups in lists.values() for own in groups.values() for it in own}
         if written:
-            of = f"{some(written)}, of {self.pools_text(sorted(lists))}" + (f" and {self.names_of(devices)}" if devices else "")
-            self.notes.append(Note(kind, f"{counted(len(written), 'group')} with {has}: {of}; {what}", pools=lists, devices=devices, groups=written, open_=False))
+            of = f"{some(written)}, of {self.pools_text(sorted(lists))}" + (
+                f" and {self.names_of(devices)}" if devices else ""
+            )
+            self.notes.append(
+                Note(
+                    kind,
+                    f"{counted(len(written), 'group')} with {has}: {of}; {what}",
+                    pools=lists,
+                    devices=devices,
+                    groups=written,
+                    open_=False,
+                )
+            )
 
     # ---- what stands in the answers
 
@@ -243,7 +333,13 @@ class Plan:
     def run(self, pools=None, pairs=None, exceptions=None, maps=None):
         """Begins a run on some of the pools, with the cluster's map, upmap items and other
         exceptions, or others."""
-        return Run(self, self.pools if pools is None else pools, self.pairs if pairs is None else pairs, exceptions or self.exceptions, maps or [self.texts])
+        return Run(
+            self,
+            self.pools if pools is None else pools,
+            self.pairs if pairs is None else pairs,
+            exceptions or self.exceptions,
+            maps or [self.texts],
+        )
 
     def side_by_side(self, *works):
         """Does several works that ask, side by side where that can be; returns what they return."""

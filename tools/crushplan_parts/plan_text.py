@@ -3,6 +3,7 @@ step that decides."""
 import collections
 import fractions
 
+from .drawing import RATIOS
 from .output import Table, sized
 from .passage import entries_of, groups_text
 from .reports import listed
@@ -25,6 +26,8 @@ HEADS = [
     "missing_copies",
     "below_min_size",
     "hours",
+    "short_meanwhile",
+    "not_done",
 ]
 
 GROUP_HEADS = ["step", "pool", "group", "id", "before", "after", "copies"]
@@ -43,10 +46,23 @@ class Sums:
         self.bytes = None if None in bytes_ else sum(bytes_, fractions.Fraction(0))
         hours = [it.hours(rate) for it in own] if rate else [None]
         self.hours = None if None in hours else sum(hours, fractions.Fraction(0))
-        self.stopped = sorted({of for it in own for of in it.stopped})
+        self.stopped = by_number({of for it in own for of in it.stopped})
+        self.shortened = by_number({of for it in own for of in it.meanwhile.short})
+        self.fewest = min((it.meanwhile.fewest for it in own if it.meanwhile.short), default=None)
         self.knows_room = one_step.ledger.looks
         self.way = highest(own, lambda it: it.fullest(it.used_on_the_way, it.written))
         self.end = one_step.fullest(one_step.used_after)
+
+    def short_text(self):
+        """Returns which groups have fewer copies while data moves, and how many at least."""
+        if not self.shortened:
+            return "none"
+        return f"{groups_text(self.shortened)}: {self.fewest}{' at least' if len(self.shortened) > 1 else ''}"
+
+
+def by_number(names):
+    """Returns names of groups by pool and number."""
+    return sorted(names, key=lambda it: (int(it.split(".")[0]), int(it.split(".")[1], 16)))
 
 
 def highest(passages, level):
@@ -86,6 +102,7 @@ def summary_table(sums):
         ("the same change in one step", copies_text(one.copies, one.bytes())),
         ("the least that the change of weights asks for", f"{rounded(least.numerator, least.denominator, 1):,} copies"),
         ("groups that move twice or more", f"{len(sums.twice):,}" if sums.twice else "none"),
+        ("groups that have fewer copies meanwhile", sums.short_text()),
         ("groups below their pool's min_size: their I/O stops", groups_text(sums.stopped) if sums.stopped else "none"),
         ("fullest device on the way", level_text(plan, sums.way)),
         ("fullest device at the end", level_text(plan, sums.end)),
@@ -99,28 +116,33 @@ def summary_table(sums):
 
 
 def steps_table(done, rate):
-    heads = ["step", "lines", "move", "copies", "bytes", "least", "on the way", "afterwards", "no device", "stops"] + (
-        ["hours"] if rate else []
-    )
+    heads = ["step", "lines", "move", "copies", "bytes", "least", "on the way", "afterwards", "no device", "short"]
+    heads += ["stops"] + (["hours"] if rate else [])
     rows = []
     for it in done:
         own, plan = it.passage, it.passage.after.plan
-        row = [
-            it.number,
-            it.step.where().split(" ")[1],
-            len(own.moves),
-            own.copies,
-            sized(own.bytes()),
-            least_text(own),
-        ]
+        if it.is_empty():
+            rows.append([it.number, lines_done(it), *[None] * (len(heads) - 2)])
+            continue
+        row = [it.number, lines_done(it), len(own.moves), own.copies, sized(own.bytes()), least_text(own)]
         row += [
             level_text(plan, own.fullest(own.used_on_the_way, own.written)),
             level_text(plan, own.fullest(own.used_after)),
             own.missing,
+            len(own.meanwhile.short),
             len(own.stopped),
         ]
         rows.append(row + ([hours_text(own.hours(rate))] if rate else []))
     return Table(heads, rows, "By step, until all is clean:")
+
+
+def lines_done(it):
+    """Returns the lines of a step, and which of them isn't done, in words."""
+    if it.not_done() is None:
+        return it.step.where().split(" ")[1]
+    why = f"{it.not_done()} {'refused' if it.events[-1].refused is not None else 'unknown'}"
+    own = [of.line.number for of in it.events[:-1]]
+    return f"{own[0]}-{own[-1]}, {why}" if len({*own}) > 1 else f"{own[0]}, {why}" if own else why
 
 
 def lines_table(done):
@@ -135,7 +157,7 @@ def lines_table(done):
                 words.insert(0, f"not foretold: {event.unknown}")
             rows.append((event.line.number, event.line.text, "; ".join(words)))
         then = [*it.by_itself, *(f"Ceph removes the upmap entry {of}" for of in it.removed), *it.remarks()]
-        if it.step.wait or then:
+        if it.step.wait and it.not_done() is None or then:
             rows.append((it.step.wait or "", "wait" if it.step.wait else "", "; ".join(then)))
     return Table(("line", "command", "remark"), rows, "Lines:")
 
@@ -149,8 +171,8 @@ def deciding(it):
     return f"What decides is {it.where()}:\n" + "\n".join(f"  {text}" for text in words)
 
 
-def after_table(ledger, own, decides):
-    """Returns how the cluster looks after a step: its fullest devices."""
+def after_table(ledger, own, where):
+    """Returns how the cluster looks after a passage: its fullest devices."""
     if own is None or not own.pools:
         return None
     plan, used = own.after.plan, own.used_after
@@ -164,8 +186,7 @@ def after_table(ledger, own, decides):
         row = [plan.map.name_of(it), plan.tree.host(it), start[it], after[it]]
         row += [hundredths(ratio_said(of[it])) if it in of else None for of in (before, used)] if used else []
         rows.append([*row, state_text(own.after.maps, it)])
-    when = f"after {decides.where()}" if decides else "at the end"
-    return Table(heads, rows, f"Copies {when}{cut}:")
+    return Table(heads, rows, f"Copies {where}{cut}:")
 
 
 def state_text(maps, device):
@@ -277,6 +298,8 @@ def passage_said(own, rate):
         "missing_copies": own.missing,
         "short": own.short,
         "below_min_size": own.stopped,
+        "short_meanwhile": own.meanwhile.short,
+        "fewest_meanwhile": own.meanwhile.fewest,
         "lost": own.lost,
         "hours": None if hours is None else rounded(hours.numerator, hours.denominator, 2),
     }
@@ -294,9 +317,16 @@ def event_said(it):
     }
 
 
-def said_of(done, sums, asked):
+def unfollowed(steps, done):
+    """Returns the lines that stand behind one that is refused or isn't foretold, by their
+    numbers."""
+    lines, followed = [it for of in steps for it in of.lines], sum(len(it.events) for it in done)
+    return sorted({it.number for it in lines[followed:]})
+
+
+def said_of(steps_of, done, sums, asked):
     """Returns the fields of the JSON."""
-    steps = []
+    steps, ratios = [], sums.one_step.ledger.cluster.ratios
     for it in done:
         own = {
             "step": it.number,
@@ -306,6 +336,7 @@ def said_of(done, sums, asked):
         }
         own["events"] = [event_said(of) for of in it.events]
         own["by_itself"], own["faults"] = it.by_itself, [text for _, text in it.faults()]
+        own["removed"], own["remarks"] = it.removed, list(it.remarks())
         if asked.groups:
             own["groups"] = [
                 {
@@ -329,8 +360,13 @@ def said_of(done, sums, asked):
         "bytes": whole(sums.bytes),
         "twice": [f"{pool}.{group:x}" for pool, group in sums.twice],
         "below_min_size": sums.stopped,
+        "short_meanwhile": sums.shortened,
+        "fewest_meanwhile": sums.fewest,
         "on_the_way": level_said(sums.way),
         "hours": hours,
+        "rate": None if asked.rate is None else float(asked.rate),
+        "ratios": {name: float(ratios[name]) for name, _ in RATIOS if name in ratios},
+        "unfollowed": unfollowed(steps_of, done),
         "one_step": passage_said(sums.one_step, asked.rate),
     }
 
@@ -358,6 +394,9 @@ def rows_of(done, asked):
     for it in done:
         own = passage_said(it.passage, asked.rate)
         way, full = (own[key] or {} for key in ("on_the_way", "fullest"))
+        if it.is_empty():
+            yield [it.number, it.step.lines[0].number, it.step.lines[-1].number, *[None] * 12, it.not_done()]
+            continue
         yield [
             it.number,
             it.step.lines[0].number,
@@ -373,4 +412,6 @@ def rows_of(done, asked):
             own["missing_copies"],
             len(own["below_min_size"]),
             own["hours"],
+            len(own["short_meanwhile"]),
+            it.not_done(),
         ]

@@ -3,7 +3,16 @@ share asks for, as lines to type. No data moves: a primary goes to a device that
 import fractions
 
 from .balance import Watch, begun, note, nothing
-from .balanced import FARTHEST, clients_lines, fixed_text, lacks_pools, lines_text, write_lines
+from .balanced import (
+    FARTHEST,
+    clients_lines,
+    devices_said,
+    fixed_text,
+    lacks_pools,
+    lines_text,
+    usage_said,
+    write_lines,
+)
 from .balancing import ceiling, cut_off, floor
 from .drawing import of_counts
 from .evening import Ground, Search
@@ -81,6 +90,7 @@ class Primaries:
             "deviation_before": cut_off(self.distance(self.ground.counts)),
             "deviation_after": cut_off(self.distance(self.search.count)),
             "off": [self.device_said(it) for it in self.off()],
+            "usage": usage_said(self.shares, self.ground.counts, self.search.count),
         }  # fmt: skip
 
     def device_said(self, it):
@@ -170,11 +180,12 @@ def answer(plan, asked, found, is_whole):
         write_lines(asked.lines, lines)
     status = 2 if lacks_pools(plan, asked) else 1 if off or not is_whole else 0
     fields = {"whole": is_whole, "changed": len(groups), "least": least, "pools": pools, "groups": groups}
-    fields["lines"] = lines
+    fields |= {"lines": lines, "devices": devices_said(plan, pools), "remarks": remarks(plan, pools, lines)}
     heads = ["pool", "group", "id", "primary_before", "primary_after", "line"]
     rows = [heads, *([it[head] for head in heads] for it in groups)]
-    blocks = [pools_table(pools), text(plan, pools, lines), lines_text(lines)]
-    return Answer(status, sentence(groups, least, off, is_whole), fields, blocks, rows, lambda: drawing(plan, found))
+    blocks = [pools_table(pools), "\n".join(fields["remarks"]), lines_text(lines)]
+    answer = Answer(status, sentence(groups, least, off, is_whole), fields, blocks, rows, lambda: drawing(plan, found))
+    return answer.of({it["pool"] for it in fields["pools"]}, ())
 
 
 def sentence(groups, least, off, is_whole):
@@ -197,13 +208,14 @@ def pools_table(pools):
     return Table(("pool", "id", *FARTHEST, "primaries change", "least"), rows)
 
 
-def text(plan, pools, lines):
+def remarks(plan, pools, lines):
+    """Returns what else is to be said, a line each."""
     found = ["'farthest' is how many primaries a device is from its share of copies by the pool's size, at most."]
     for pool in (it for it in pools if it["off"]):
         of = lambda it: f"osd.{it['device']} has {it['primaries']} of {it['copies']} copies for {it['share']}"
         each = some(list(map(of, pool["off"])), MOST_NAMED)
         found.append(f"Of pool {pool['name']} {each}: its copies allow no other number; even these out.")
-    return "\n".join([*found, *(clients_lines(plan, FIRST, "lines") if lines else ())])
+    return [*found, *(clients_lines(plan, FIRST, "lines") if lines else ())]
 
 
 def drawing(plan, found):

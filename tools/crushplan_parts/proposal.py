@@ -2,7 +2,8 @@
 number of moves or by how full devices may be, and their upmap items."""
 import fractions
 
-from .balancing import HALF, ceiling
+from .balancing import ceiling
+from .ladder import Ladder
 from .several import Fill, even_out, in_order
 
 MOST_SEARCHES = 24  # of all pools, for one that keeps to a number of moves
@@ -54,31 +55,6 @@ class Proposal:
     def reached(self):
         """Returns the greatest deviation of all pools."""
         return max((it.deviation(search.count) for it, search in self.pairs), default=fractions.Fraction(0))
-
-
-class Ladder:
-    """The deviation 1/2, and all above it at which limits of some device change, by their place."""
-
-    def __init__(self, balancings):
-        self.parts = sorted({fractions.Fraction(0)}.union(*(it.turns() for it in balancings)))
-        greatest = max((it.deviation(it.ground.counts) for it in balancings), default=fractions.Fraction(0))
-        self.first = next((place for place, it in enumerate(self.parts) if it > HALF), len(self.parts)) - 1
-        self.last = (ceiling(greatest) + 1) * len(self.parts)
-
-    def at(self, place):
-        whole, part = divmod(place, len(self.parts))
-        return max(HALF, whole + self.parts[part])
-
-    def first_where(self, holds):
-        """Returns the first place at which something holds that then holds at all that follow."""
-        low, high = self.first, max(self.first, self.last)
-        while low < high:
-            middle = (low + high) // 2
-            if holds(self.at(middle)):
-                high = middle
-            else:
-                low = middle + 1
-        return low
 
 
 def within_moves(balancings, most, watch):

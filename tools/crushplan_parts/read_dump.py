@@ -10,7 +10,8 @@ from .sets import sharpen
 # steps that release 16 writes by their numbers
 OPCODES = {12: "set_chooseleaf_vary_r", 13: "set_chooseleaf_stable"}
 SET_STEPS = (
-    "set_choose_tries", "set_chooseleaf_tries", "set_choose_local_tries", "set_choose_local_fallback_tries", "set_chooseleaf_vary_r", "set_chooseleaf_stable",
+    "set_choose_tries", "set_chooseleaf_tries", "set_choose_local_tries", "set_choose_local_fallback_tries",
+    "set_chooseleaf_vary_r", "set_chooseleaf_stable",
 )  # fmt: skip
 
 
@@ -18,7 +19,9 @@ def read_dump(path, name):
     """Reads the map of a dump; a Fault names the field that isn't as Ceph writes it."""
     whole = opened(path, name)
     if not whole.has("buckets") or not whole.has("tunables"):
-        raise Fault(f"{name} has no fields 'buckets' and 'tunables': it isn't what 'ceph osd crush dump -f json' writes")
+        raise Fault(
+            f"{name} has no fields 'buckets' and 'tunables': it isn't what 'ceph osd crush dump -f json' writes"
+        )
     types = {it.get("type_id", int): it.get("name", str) for it in whole.each("types")}
     devices, classes = {}, {}
     for it in whole.each("devices"):
@@ -40,10 +43,14 @@ def bucket_of(node):
     id_, name = node.get("id", int), node.get("name", str)
     if id_ >= 0:
         raise Fault(f"{node.where}: the id of a bucket is below 0")
-    items = [(it.get("pos", int, place), it.get("id", int), it.size("weight")) for place, it in enumerate(node.each("items"))]
+    items = [
+        (it.get("pos", int, place), it.get("id", int), it.size("weight")) for place, it in enumerate(node.each("items"))
+    ]
     items = [(item, weight) for _, item, weight in sorted(items, key=lambda it: it[0])]
     shadow = name.rsplit("~", 1)[1] if "~" in name else None
-    return Bucket(id_, name, node.get("type_id", int), node.get("alg", str), node.get("hash", str, "rjenkins1"), items, shadow)
+    return Bucket(
+        id_, name, node.get("type_id", int), node.get("alg", str), node.get("hash", str, "rjenkins1"), items, shadow
+    )
 
 
 def rule_of(node, buckets):
@@ -57,8 +64,19 @@ def rule_of(node, buckets):
             steps.append(step)
     if node.get("ruleset", int, id_) != id_:
         odd = odd or f"its ruleset is {node.get('ruleset', int)}"
-    sizes = (node.get("min_size", int), node.get("max_size", int)) if node.has("min_size") and node.has("max_size") else None
-    return Rule(id_, node.get("rule_name", str, f"rule-{id_}"), {**KINDS, **MSR_KINDS}.get(type_, "replicated"), steps, sizes, odd)
+    sizes = (
+        (node.get("min_size", int), node.get("max_size", int))
+        if node.has("min_size") and node.has("max_size")
+        else None
+    )
+    return Rule(
+        id_,
+        node.get("rule_name", str, f"rule-{id_}"),
+        {**KINDS, **MSR_KINDS}.get(type_, "replicated"),
+        steps,
+        sizes,
+        odd,
+    )
 
 
 def step_of(node, buckets):
@@ -97,7 +115,10 @@ def weight_sets_of(whole):
         for it in sets.each(key):
             bucket = it.get("bucket_id", int)
             if it.has("weight_set"):
-                rows[bucket] = [[fixed_weight(of) for of in row_of(it, place)] for place in range(len(it.at("weight_set").of_kind(list)))]
+                rows[bucket] = [
+                    [fixed_weight(of) for of in row_of(it, place)]
+                    for place in range(len(it.at("weight_set").of_kind(list)))
+                ]
             if it.has("ids") and it.at("ids").of_kind(list):
                 with_ids.append(bucket)
         found[id_] = WeightSet(rows, with_ids)

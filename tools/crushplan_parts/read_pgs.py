@@ -28,7 +28,9 @@ def read_pgs(path):
             pool, group = row["pgid"].split(".")
             up, acting = (listed(row[name]) for name in ("up", "acting"))
             primary = row.get("up_primary", -1)
-            found.setdefault(int(pool), {})[int(group, 16)] = Said(row["state"], up, primary if primary >= 0 else None, acting)
+            found.setdefault(int(pool), {})[int(group, 16)] = Said(
+                row["state"], up, primary if primary >= 0 else None, acting
+            )
         return found
     except OSError as error:
         raise Fault(f"{path}: {error.strerror or error}") from None

@@ -6,7 +6,7 @@ import re
 from .crush_map import MSR, ONE, TUNABLES, Bucket, CrushMap, Rule, WeightSet
 from .faults import Fault
 from .sets import ALL
-from .shadows import rebuilt
+from .wrapper import Wrapper
 
 WORD = re.compile(r"[{}\[\]]|[^\s{}\[\]]+")
 INTEGER = re.compile(r"-?\d{1,10}")
@@ -19,7 +19,11 @@ class Words:
 
     def __init__(self, text, file):
         self.file, self.place = file, 0
-        self.words = [(word, line) for line, content in enumerate(text.splitlines(), 1) for word in WORD.findall(content.split("#", 1)[0])]
+        self.words = [
+            (word, line)
+            for line, content in enumerate(text.splitlines(), 1)
+            for word in WORD.findall(content.split("#", 1)[0])
+        ]
 
     def fault(self, why):
         line = self.words[min(self.place, len(self.words) - 1)][1] if self.words else 1
@@ -94,11 +98,18 @@ def take_classes(map_, shadows):
     has rules take them."""
     if not set(shadows.values()) & map_.buckets.keys():
         rows = {key: dict(it.rows) for key, it in map_.weight_sets.items()}
-        rebuilt(map_, shadows)
+        Wrapper(map_).make_shadows(shadows)
         for key, own in rows.items():  # the text has their rows too
             map_.weight_sets[key].rows.update(own)
     for rule in map_.rules.values():
-        rule.steps = [(it[0], shadows[it[1], it[2]], None) if it[0] == "take" and shadows.get((it[1], it[2])) in map_.buckets else it for it in rule.steps]
+        rule.steps = [
+            (
+                (it[0], shadows[it[1], it[2]], None)
+                if it[0] == "take" and shadows.get((it[1], it[2])) in map_.buckets
+                else it
+            )
+            for it in rule.steps
+        ]
 
 
 def read_bucket(words, type_name, map_, ids):

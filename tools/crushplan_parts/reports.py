@@ -57,39 +57,75 @@ def warn_of_flags(plan, *more):
     """Warns of flags of the cluster, while which Ceph doesn't do by itself what is computed."""
     flags = [it for it in plan.cluster.flags if it in (*HOLDING, *more)]
     if flags:
-        plan.cluster.warnings.append(f"osd.json has the {'flag' if len(flags) == 1 else 'flags'} {some(flags)}: until Ceph is without {'it' if len(flags) == 1 else 'them'}, it doesn't do all of this")
+        plan.cluster.warnings.append(
+            f"osd.json has the {'flag' if len(flags) == 1 else 'flags'} {some(flags)}: until Ceph is without"
+            f" {'it' if len(flags) == 1 else 'them'}, it doesn't do all of this"
+        )
 
 
 def near_full(summary):
     """Says how many devices get past the near-full ratio, which stops nothing."""
     count = len(summary.past["nearfull_ratio"])
-    return f", but {counted(count, 'device')} {'gets' if count == 1 else 'get'} past near-full (a health warning)" if count else ""
+    return (
+        f", but {counted(count, 'device')} {'gets' if count == 1 else 'get'} past near-full (a health warning)"
+        if count
+        else ""
+    )
 
 
-def verdict(summary, stay, status, stopped=0, stretched=()):
-    """Returns the answer in one sentence. `stretched` are pools of which it isn't known what
-    stops."""
-    moved = f"{counted(len(summary.moves), 'group')} {'moves' if len(summary.moves) == 1 else 'move'}" if summary.moves else "no group moves"
+def verdict(summary, stay, status, stopped="", stretched=()):
+    """Returns the answer in one sentence. `stopped` says which I/O stops, if any; `stretched` are
+    pools of which it isn't known what stops."""
+    moved = (
+        f"{counted(len(summary.moves), 'group')} {'moves' if len(summary.moves) == 1 else 'move'}"
+        if summary.moves
+        else "no group moves"
+    )
     if status == 2:
-        why = ([f"{stay.unknown_text()} can't be computed"] if stay.is_unknown() else []) + ([summary.room_gap()] if summary.room_gap() else [])
-        why += [f"what stops in {'pool' if len(stretched) == 1 else 'the pools'} {some([it.name for it in stretched], 3)} isn't computed (stretch mode)"] if stretched else []
-        return f"unknown: {'; '.join(why)}; of what can, {moved}." if summary.changes else "unknown: no pool can be computed."
+        why = ([f"{stay.unknown_text()} can't be computed"] if stay.is_unknown() else []) + (
+            [summary.room_gap()] if summary.room_gap() else []
+        )
+        why += (
+            [
+                "what stops in"
+                f" {'pool' if len(stretched) == 1 else 'the pools'} {some([it.name for it in stretched], 3)} isn't"
+                " computed (stretch mode)"
+            ]
+            if stretched
+            else []
+        )
+        return (
+            f"unknown: {'; '.join(why)}; of what can, {moved}."
+            if summary.changes
+            else "unknown: no pool can be computed."
+        )
     if status == 0:
         return f"yes{near_full(summary)}: {moved}, and every copy has {'room' if summary.knows_room() else 'a device'}."
-    why = []
-    if stopped:
-        why.append(f"{counted(stopped, 'group')} {'has' if stopped == 1 else 'have'} fewer copies than min_size while the devices are down, so {'its' if stopped == 1 else 'their'} I/O stops")
+    why = [stopped] if stopped else []
     lacking = [it for it in summary.changes if it.missing]
     if lacking:
         pools = some([it.pool.name for it in lacking], 3)
-        before = " (as many as before)" if summary.missing_before == summary.missing else f" ({summary.missing_before:,} before)" if summary.missing_before else ""
-        why.append(f"{counted(summary.missing, *COPY)} of {'pool' if len(lacking) == 1 else 'the pools'} {pools} {'has' if summary.missing == 1 else 'have'} no device{before}")
+        before = (
+            " (as many as before)"
+            if summary.missing_before == summary.missing
+            else f" ({summary.missing_before:,} before)" if summary.missing_before else ""
+        )
+        why.append(
+            f"{counted(summary.missing, *COPY)} of"
+            f" {'pool' if len(lacking) == 1 else 'the pools'} {pools} {'has' if summary.missing == 1 else 'have'} no"
+            f" device{before}"
+        )
     if summary.past["backfillfull_ratio"]:
-        why.append(f"{some([shown_used(it) for it in summary.past['backfillfull_ratio']], 3)}, past the backfill-full ratio")
+        why.append(
+            f"{some([shown_used(it) for it in summary.past['backfillfull_ratio']], 3)}, past the backfill-full ratio"
+        )
     if summary.room_gap():
         why.append(summary.room_gap())
     if stay.keeping:
-        why.append(f"{some(stay.names, 3)} {'keeps' if len(stay.names) == 1 else 'keep'} {counted(sum(stay.keeping.values()), *COPY)}: a rule takes it by name")
+        why.append(
+            f"{some(stay.names, 3)} {'keeps' if len(stay.names) == 1 else 'keep'}"
+            f" {counted(sum(stay.keeping.values()), *COPY)}: a rule takes it by name"
+        )
     return "no: " + "; ".join(why) + f"; {moved}."
 
 
@@ -107,11 +143,16 @@ def summary_table(plan, summary, stay, title=None, down=()):
     if not summary.changes:
         return None
     before = f" (before: {summary.short_before:,}, by {summary.missing_before:,})" if summary.short_before else ""
-    short = (f"{summary.short:,} of {summary.groups:,}, by {counted(summary.missing, *COPY)}" if summary.short else "none") + before
+    short = (
+        f"{summary.short:,} of {summary.groups:,}, by {counted(summary.missing, *COPY)}" if summary.short else "none"
+    ) + before
     rows = [
         ("groups with fewer copies than the pool's size", short),
         ("groups that move", f"{len(summary.moves):,} of {summary.groups:,}"),
-        ("copies that are written anew", f"{summary.copies:,}" + (f", {sized(summary.bytes)}" if summary.bytes is not None else "")),
+        (
+            "copies that are written anew",
+            f"{summary.copies:,}" + (f", {sized(summary.bytes)}" if summary.bytes is not None else ""),
+        ),
         ("fullest device afterwards", fullest_text(plan, summary)),
         (PROVED[plan.client.is_unproved()], proved_text(summary, down)),
     ]
@@ -122,7 +163,13 @@ def summary_table(plan, summary, stay, title=None, down=()):
     if summary.fullest and summary.fullest.used_after is not None:
         rows.insert(4, ("its room", room_text(plan, summary.fullest)))
     if stay.keeping:
-        rows.insert(1, ("copies that stay, by a rule that takes the device", some([f"osd.{device}: {copies:,}" for device, copies in sorted(stay.keeping.items())])))
+        rows.insert(
+            1,
+            (
+                "copies that stay, by a rule that takes the device",
+                some([f"osd.{device}: {copies:,}" for device, copies in sorted(stay.keeping.items())]),
+            ),
+        )
     return Table(("", ""), rows, title)
 
 
@@ -162,7 +209,20 @@ def pools_table(summary):
     if len(summary.changes) < 2 or not own:
         return None
     heads = ("pool", "id", "size", "short", "missing", "move", "of", "copies", "bytes")
-    rows = [(it.pool.name, it.pool.id, it.pool.size, it.short, it.missing, len(it.moves), it.pool.pg_num, it.copies, sized(it.bytes)) for it in own]
+    rows = [
+        (
+            it.pool.name,
+            it.pool.id,
+            it.pool.size,
+            it.short,
+            it.missing,
+            len(it.moves),
+            it.pool.pg_num,
+            it.copies,
+            sized(it.bytes),
+        )
+        for it in own
+    ]
     return Table(heads, rows, "By pool:")
 
 
@@ -175,13 +235,37 @@ def usage_table(plan, summary, by):
     type_ = plan.tree.type_number(by) if by else 0 if len(devices) <= MOST_ROWS else plan.tree.host_type()
     known = any(it.bytes_after is not None for it in devices)
     used = any(it.used_after is not None for it in devices) and type_ == 0
-    heads = ["device" if type_ == 0 else plan.map.types.get(type_, "bucket")] + (["host"] if type_ == 0 else []) + ["before", "after", "change", "share", "% of share"] + (["bytes"] if known else []) + (["used %"] if used else [])
+    heads = (
+        ["device" if type_ == 0 else plan.map.types.get(type_, "bucket")]
+        + (["host"] if type_ == 0 else [])
+        + ["before", "after", "change", "share", "% of share"]
+        + (["bytes"] if known else [])
+        + (["used %"] if used else [])
+    )
     rows = []
     for name, host, own in grouped(plan, devices, type_):
-        before, after, expected = sum(it.before for it in own), sum(it.after for it in own), sum_fractions(it.expected_after for it in own)
-        row = [name] + ([host] if type_ == 0 else []) + [before, after, after - before, rounded(*expected, 1), percent(after, expected)]
+        before, after, expected = (
+            sum(it.before for it in own),
+            sum(it.after for it in own),
+            sum_fractions(it.expected_after for it in own),
+        )
+        row = (
+            [name]
+            + ([host] if type_ == 0 else [])
+            + [before, after, after - before, rounded(*expected, 1), percent(after, expected)]
+        )
         row += [sized(bytes_after(own))] if known else []
-        row += [None if own[0].used_after is None else rounded(own[0].used_after.numerator * 100, own[0].used_after.denominator, 1)] if used else []
+        row += (
+            [
+                (
+                    None
+                    if own[0].used_after is None
+                    else rounded(own[0].used_after.numerator * 100, own[0].used_after.denominator, 1)
+                )
+            ]
+            if used
+            else []
+        )
         rows.append(row)
     return Table(heads, rows, f"Copies before and after, by {heads[0]}:")
 
@@ -219,8 +303,22 @@ def usage_rows(summary):
 
 
 def groups_table(moves):
-    rows = [(it.pool.group_name(it.group), devices_text(it.before.up), devices_text(it.after.up), it.after.primary, it.copies, "yes" if it.short else "") for it in moves]
-    return Table(("group", "before", "after", "primary", "copies", "short"), rows, "Groups that move:") if rows else "No group moves."
+    rows = [
+        (
+            it.pool.group_name(it.group),
+            devices_text(it.before.up),
+            devices_text(it.after.up),
+            it.after.primary,
+            it.copies,
+            "yes" if it.short else "",
+        )
+        for it in moves
+    ]
+    return (
+        Table(("group", "before", "after", "primary", "copies", "short"), rows, "Groups that move:")
+        if rows
+        else "No group moves."
+    )
 
 
 def groups_rows(plan, moves):
@@ -229,7 +327,17 @@ def groups_rows(plan, moves):
     yield ["pool", "group", "id", "before", "after", "primary_before", "primary_after", "copies", "short"]
     for it in moves:
         said = it.said()
-        yield [said["pool"], said["group"], said["id"], listed(said["before"]), listed(said["after"]), said["primary_before"], said["primary_after"], said["copies"], int(said["short"])]
+        yield [
+            said["pool"],
+            said["group"],
+            said["id"],
+            listed(said["before"]),
+            listed(said["after"]),
+            said["primary_before"],
+            said["primary_after"],
+            said["copies"],
+            int(said["short"]),
+        ]
 
 
 def listed(items):

@@ -73,14 +73,21 @@ class Run:
             self.changed = {**self.changed, **states}
         for side in self.sides:
             known = side.texts[side.version - 1].devices()
-            changes = [{"id": id_, "reweight": it.reweight, "up": it.up} for id_, it in sorted(states.items()) if id_ in known]
+            changes = [
+                {"id": id_, "reweight": it.reweight, "up": it.up} for id_, it in sorted(states.items()) if id_ in known
+            ]
             for start in range(0, len(changes), MOST_CHANGES):
                 side.add(change("/devices", devices=changes[start : start + MOST_CHANGES]))
 
     def set_pairs(self, pool, pairs):
         side = self.side_of[pool]
         known = side.texts[side.version - 1].items
-        own = [{"group": group, "from": old, "to": new} for group, own in pairs.items() for old, new in own if old in known and new in known]
+        own = [
+            {"group": group, "from": old, "to": new}
+            for group, own in pairs.items()
+            for old, new in own
+            if old in known and new in known
+        ]
         self.add(pool, change("/pools/exceptions", id=pool, exceptions=own))
 
     def ask_groups(self, asked, groups):
@@ -167,7 +174,11 @@ class Run:
         """Returns the entries and the primaries of each device."""
         entries, primaries, groups = {}, {}, {}
         for row in self.reply(asked.pool, asked.place)["rows"]:
-            entries[row["device"]], primaries[row["device"]], groups[row["device"]] = row["entries"], row["primaries"], row["groups"]
+            entries[row["device"]], primaries[row["device"]], groups[row["device"]] = (
+                row["entries"],
+                row["primaries"],
+                row["groups"],
+            )
         if asked.own:
             count(entries, primaries, self.as_said(asked.plain or asked.own).values(), -1)
             count(entries, primaries, self.placements(asked.own).values(), 1)

@@ -8,9 +8,11 @@ import time
 
 from .faults import Fault, NoAnswer
 
-LATE = 15  # seconds that a process may take to end once it was told to
+WRITING = 10  # seconds in which a search that is told to end writes what it found
+LATE = WRITING + 5  # seconds that a process may take to end once it was told to
 ANSWERED = (0, 1, 2)  # the statuses of crushplan
-TIMED_OUT = (124, 128 + signal.SIGKILL, -signal.SIGKILL)  # the statuses of timeout
+# the statuses of one whose time is over, by timeout
+TIMED_OUT = (128 + signal.SIGINT, -signal.SIGINT, 128 + signal.SIGKILL, -signal.SIGKILL)
 
 
 class Runs:
@@ -40,8 +42,9 @@ class Runs:
         raise self.fault(process.returncode, seconds if is_late else None, err.decode(errors="replace"))
 
     def started(self, words, seconds, jobs, nice):
-        # timeout ends it also where the manager is killed
-        limits = ["timeout", "--kill-after=5", str(seconds), "nice", "-n", str(nice)]
+        # timeout ends it also where the manager is killed; at SIGINT a search gives what it found
+        ends = ["timeout", "--preserve-status", "--signal=INT", f"--kill-after={WRITING}"]
+        limits = [*ends, str(seconds), "nice", "-n", str(nice)]
         how = {**dict.fromkeys(("stdin", "stdout", "stderr"), subprocess.PIPE), "start_new_session": True}
         environment = {**os.environ, "CRUSHPLAN_JOBS": str(jobs), "PYTHONUTF8": "1"}
         with self.lock:

@@ -5,6 +5,7 @@ import os
 import pathlib
 import re
 import subprocess
+import tempfile
 import threading
 
 from .faults import NoAnswer
@@ -12,9 +13,10 @@ from .settled import Placement
 from .waiting import waiting
 
 MOST_JOBS = 4  # programs side by side
-JOBS = min(MOST_JOBS, len(os.sched_getaffinity(0)) if hasattr(os, "sched_getaffinity") else os.cpu_count() or 1)
+PROCESSORS = len(os.sched_getaffinity(0)) if hasattr(os, "sched_getaffinity") else os.cpu_count() or 1
 if os.environ.get("CRUSHPLAN_JOBS", "").isdigit():  # as a manager asks for
-    JOBS = max(1, min(JOBS, int(os.environ["CRUSHPLAN_JOBS"])))
+    PROCESSORS = max(1, min(PROCESSORS, int(os.environ["CRUSHPLAN_JOBS"])))
+JOBS = min(MOST_JOBS, PROCESSORS)
 SECONDS = 600  # as long as one run may take
 MOST_READ = 2_000  # replies that are read at once
 UNPROVED = "unproved"  # a word of the version of a program that was built without proofs
@@ -85,7 +87,9 @@ def replies_of(requests, replies, where):
     groups; a Fault where one of these is refused."""
     found, left = [], iter(replies)
     for it in requests:
-        found.append([placement(it, group, next(left), where) for group in it.groups] if isinstance(it, Groups) else next(left))
+        found.append(
+            [placement(it, group, next(left), where) for group in it.groups] if isinstance(it, Groups) else next(left)
+        )
     return found
 
 
@@ -112,35 +116,79 @@ def placements_in(lines):
             return None
         try:
             said = json.loads(b"[" + b",".join([it[4:] for it in part]) + b"]")
-            found += [Placement(it["raw"], it["raw"] if it["raw"] == it["up"] else it["up"], it["primary"]) for it in said]
+            found += [
+                Placement(it["raw"], it["raw"] if it["raw"] == it["up"] else it["up"], it["primary"]) for it in said
+            ]
         except (ValueError, KeyError, TypeError):
             return None
     return found if len(found) == len(lines) else None
 
 
+def unnamed_file():
+    """Returns a file without a name, in memory where the system has that. A program writes each
+    line by itself, and would wake the reader of a pipe for each."""
+    return os.fdopen(os.memfd_create("crushplan"), "w+b") if hasattr(os, "memfd_create") else tempfile.TemporaryFile()
+
+
 class Script:
     """Plays `crushcalc script`."""
 
-    is_parallel = True  # each run asks a process of its own
+    is_parallel, jobs = True, JOBS  # each run asks a process of its own, and so many at once
 
     def __init__(self, program):
         self.program = program
         self.where = str(program)
 
+    @property
+    def spread(self):
+        """What shares works out to processes of this machine, as machines.py to others; None where
+        there is one processor, or this process has threads, which copies of it wouldn't have."""
+        if self.jobs < 2 or threading.active_count() > 1:
+            return None
+        return self.spread_here
+
+    def spread_here(self, function, shared, parts, done):
+        from .processes import spread
+
+        jobs, self.jobs = self.jobs, 1  # each of them asks one program at once
+        try:
+            return spread(function, shared, parts, done, jobs)
+        finally:
+            self.jobs = jobs
+
     def run(self, requests):
         """Answers requests on a new tenant, in order."""
-        lines = ["PUT /t/plan", *(f"{method} /t/plan{path} {body}" if body else f"{method} /t/plan{path}" for method, path, body in numbered(requests))]
+        lines = [
+            "PUT /t/plan",
+            *(
+                f"{method} /t/plan{path} {body}" if body else f"{method} /t/plan{path}"
+                for method, path, body in numbered(requests)
+            ),
+        ]
+        return self.read(requests, self.play("\n".join(lines).encode() + b"\n").splitlines())
+
+    def play(self, text):
+        """Returns what the program writes of a script: a line for each of its lines."""
         try:
-            ran = subprocess.run([self.program, "script"], input="\n".join(lines).encode() + b"\n", stdout=subprocess.PIPE, stderr=subprocess.PIPE, timeout=SECONDS)
+            with unnamed_file() as given, unnamed_file() as out:
+                given.write(text)
+                given.seek(0)
+                ran = subprocess.run(
+                    [self.program, "script"], stdin=given, stdout=out, stderr=subprocess.PIPE, timeout=SECONDS
+                )
+                out.seek(0)
+                replies = out.read()
         except OSError as error:
             raise NoAnswer(f"{self.where} can't be run: {error.strerror or error}") from None
         except subprocess.TimeoutExpired:
             raise NoAnswer(f"{self.where} hasn't answered within {SECONDS} seconds") from None
-        replies = ran.stdout.splitlines()
-        if ran.returncode != 0 or len(replies) != len(lines):
+        if ran.returncode != 0 or replies.count(b"\n") != text.count(b"\n"):
             said = ran.stderr.decode(errors="replace").strip().splitlines()[:1]
-            raise NoAnswer(f"{self.where} isn't a crushcalc that plays scripts, or it failed (status {ran.returncode}{': ' + said[0] if said else ''}; its version: {self.version()})")
-        return self.read(requests, replies)
+            raise NoAnswer(
+                f"{self.where} isn't a crushcalc that plays scripts, or it failed (status"
+                f" {ran.returncode}{': ' + said[0] if said else ''}; its version: {self.version()})"
+            )
+        return replies
 
     def read(self, requests, lines):
         """Returns the replies to requests, which are the lines behind the first."""
@@ -149,7 +197,9 @@ class Script:
             size = len(it.groups) if isinstance(it, Groups) else 1
             own, at = lines[at : at + size], at + size
             said = placements_in(own) if isinstance(it, Groups) else None
-            found += [said] if said is not None else replies_of([it], [self.read_line(line) for line in own], self.where)
+            found += (
+                [said] if said is not None else replies_of([it], [self.read_line(line) for line in own], self.where)
+            )
         return found
 
     def read_line(self, line):
@@ -166,7 +216,13 @@ class Script:
 
     def version_words(self):
         try:
-            ran = subprocess.run([self.program, "--version"], stdin=subprocess.DEVNULL, stdout=subprocess.PIPE, stderr=subprocess.DEVNULL, timeout=10)
+            ran = subprocess.run(
+                [self.program, "--version"],
+                stdin=subprocess.DEVNULL,
+                stdout=subprocess.PIPE,
+                stderr=subprocess.DEVNULL,
+                timeout=10,
+            )
         except (OSError, subprocess.TimeoutExpired):
             return []
         return re.findall(r"[^\s(),:;]+", ran.stdout.decode(errors="replace"))
@@ -191,10 +247,20 @@ def found_program(given, beside):
     for path in beside:
         if path.is_file() and os.access(path, os.X_OK):
             return path
-    path = next((it for it in map(lambda folder: os.path.join(folder, "crushcalc"), os.get_exec_path()) if os.path.isfile(it) and os.access(it, os.X_OK)), None)
+    path = next(
+        (
+            it
+            for it in map(lambda folder: os.path.join(folder, "crushcalc"), os.get_exec_path())
+            if os.path.isfile(it) and os.access(it, os.X_OK)
+        ),
+        None,
+    )
     if path:
         return pathlib.Path(path)
-    raise NoAnswer("crushcalc isn't there: neither beside crushplan nor on PATH. Build it by 'make', or unproved by 'make try', install it by 'make install', or name it by --program FILE, or a server by --service URL.")
+    raise NoAnswer(
+        "crushcalc isn't there: neither beside crushplan nor on PATH. Build it by 'make', or unproved by 'make try',"
+        " install it by 'make install', or name it by --program FILE, or a server by --service URL."
+    )
 
 
 def side_by_side(client, works):
@@ -217,7 +283,7 @@ def side_by_side(client, works):
                 faults.append(error)
 
     # nobody waits for them where the program is interrupted
-    threads = [threading.Thread(target=work, daemon=True) for _ in range(min(JOBS, len(works)))]
+    threads = [threading.Thread(target=work, daemon=True) for _ in range(min(client.jobs, len(works)))]
     for it in threads:
         it.start()
     for it in threads:

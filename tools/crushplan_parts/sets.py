@@ -31,12 +31,18 @@ def fault_of(map_, key, buckets):
     """Returns why a set can't be computed on some buckets, as a kind and words, or None."""
     for bucket, positions in own_rows(map_, key, buckets):
         if any(it != positions[0] for it in positions):
-            return "weight set", (
-                f"{name_of(key)} has other weights for each of {len(positions)} places of a list, which crushcalc doesn't "
-                "compute: one made by 'weight-set create POOL flat' it does"
+            return (
+                "weight set",
+                (
+                    f"{name_of(key)} has other weights for each of {len(positions)} places of a list, which crushcalc"
+                    " doesn't compute: one made by 'weight-set create POOL flat' it does"
+                ),
             )
         if any(len(it) != len(bucket.items) for it in positions):
-            return "weight set", f"{name_of(key)} has {len(positions[0])} weights for the {len(bucket.items)} items of {bucket.name}"
+            return (
+                "weight set",
+                f"{name_of(key)} has {len(positions[0])} weights for the {len(bucket.items)} items of {bucket.name}",
+            )
     ids = {*map_.weight_sets[key].with_ids} & set(buckets) if key is not None else ()
     if ids:
         names = some([map_.buckets[it].name for it in ids], 3)

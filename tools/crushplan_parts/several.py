@@ -16,6 +16,10 @@ class Fill:
             self.take(it, {device: float(share) for device, share in it.shares.items()})
         self.wanted = dict(self.has)
 
+    def by(self):
+        """Returns by what it counts, in a word."""
+        return "bytes" if self.known else "copies"
+
     def bytes_each(self, balancing):
         if not self.known:
             return 1.0
@@ -66,6 +70,8 @@ def even_out(pairs, fill, most, watch):
         extra += search.cost - before
         fill.take(balancing, search.count)
         watch(search)
+    for _, search in pairs if len(pairs) > 1 else ():
+        search.gather()
     return extra
 
 

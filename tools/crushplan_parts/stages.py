@@ -12,7 +12,7 @@ class Stages:
         """Takes the stages that came before, or None, and the texts of maps that are there beside
         the cluster's own; or `first`, those of the map that is there in its place."""
         self.plan, self.pools = plan, sorted(pools)
-        pairs, lists = ((before.pairs, before.lists) if before else ({}, {}))
+        pairs, lists = (before.pairs, before.lists) if before else ({}, {})
         self.pairs = {it: dict(pairs.get(it, plan.pairs[it])) for it in self.pools}
         self.lists = {it: dict(lists.get(it, plan.exceptions.lists.get(it, {}))) for it in self.pools}
         self.changed, self.first, self.texts = dict(before.changed if before else {}), first or plan.texts, list(texts)
@@ -35,7 +35,11 @@ class Stages:
 
     def keeper(self):
         # a device that a changed map brings counts as in and up, as it does for placement
-        found = Keeper(self.map, lambda device: self.changed.get(device) or (self.plan.state(device) if device in self.plan.known else State()))
+        found = Keeper(
+            self.map,
+            lambda device: self.changed.get(device)
+            or (self.plan.state(device) if device in self.plan.known else State()),
+        )
         return found.knows_as(self.plan.keeper)
 
     def remove_pairs(self, pool, raws):
@@ -88,7 +92,10 @@ class Stages:
     def settle(self, placements):
         """Has the monitors remove what they don't keep where groups lie so, by pool, and asks for
         these groups again."""
-        dirty = {pool: self.remove_pairs(pool, {group: it.raw for group, it in own.items()}) for pool, own in placements.items()}
+        dirty = {
+            pool: self.remove_pairs(pool, {group: it.raw for group, it in own.items()})
+            for pool, own in placements.items()
+        }
         for pool, own in self.again(dirty).items():
             placements[pool].update(own)
 
@@ -110,7 +117,9 @@ class Stages:
         found = {pool: run.moves(place) for pool, place in moves.items()}
         self.usages = {pool: run.counted(it) for pool, it in usages.items()}
         old, new = ({pool: run.placements(it) for pool, it in own.items()} for own in (before, after))
-        dirty = {pool: self.remove_pairs(pool, {group: it.raw for group, it in own.items()}) for pool, own in new.items()}
+        dirty = {
+            pool: self.remove_pairs(pool, {group: it.raw for group, it in own.items()}) for pool, own in new.items()
+        }
         for pool, own in self.again(dirty).items():
             if with_usage:
                 self.usages[pool] = self.usages[pool].after([(new[pool][group], it) for group, it in own.items()])

@@ -59,8 +59,9 @@ class Moved:
 
     def said(self):
         return {
-            "pool": self.pool.id, "group": self.group, "id": self.pool.group_name(self.group), "before": self.before.up, "after": self.after.up,
-            "primary_before": self.before.primary, "primary_after": self.after.primary, "copies": self.copies, "short": self.short,
+            "pool": self.pool.id, "group": self.group, "id": self.pool.group_name(self.group), "before": self.before.up,
+            "after": self.after.up, "primary_before": self.before.primary, "primary_after": self.after.primary,
+            "copies": self.copies, "short": self.short,
         }  # fmt: skip
 
 
@@ -87,13 +88,18 @@ class PoolChange:
         count twice, or None where these aren't known."""
         (over, under), _ = self.pool.parts()
         total = self.before.total()
-        return None if self.pool.bytes is None or not total else fractions.Fraction(self.pool.bytes * copies * over, total * under)
+        return (
+            None
+            if self.pool.bytes is None or not total
+            else fractions.Fraction(self.pool.bytes * copies * over, total * under)
+        )
 
     def said(self):
         pool = self.pool
         return {
-            "pool": pool.id, "name": pool.name, "kind": pool.kind, "size": pool.size, "min_size": pool.min_size, "pg_num": pool.pg_num,
-            "short_groups": self.short, "missing_copies": self.missing, "short_groups_before": self.short_before, "missing_copies_before": self.missing_before,
+            "pool": pool.id, "name": pool.name, "kind": pool.kind, "size": pool.size, "min_size": pool.min_size,
+            "pg_num": pool.pg_num, "short_groups": self.short, "missing_copies": self.missing,
+            "short_groups_before": self.short_before, "missing_copies_before": self.missing_before,
             "can_move": len(self.can_move), "moved": len(self.moves), "copies": self.copies, "bytes": whole(self.bytes),
         }  # fmt: skip
 
@@ -118,8 +124,12 @@ class Device:
     expected_after = property(lambda self: self.change.expected_after.of(self.id))
     primaries_before = property(lambda self: sum(it.before.primaries.get(self.id, 0) for it in self.change.changes))
     primaries_after = property(lambda self: sum(it.after.primaries.get(self.id, 0) for it in self.change.changes))
-    bytes_before = property(lambda self: self.change.bytes.of([it.before.entries.get(self.id, 0) for it in self.change.changes]))
-    bytes_after = property(lambda self: self.change.bytes.of([it.after.entries.get(self.id, 0) for it in self.change.changes]))
+    bytes_before = property(
+        lambda self: self.change.bytes.of([it.before.entries.get(self.id, 0) for it in self.change.changes])
+    )
+    bytes_after = property(
+        lambda self: self.change.bytes.of([it.after.entries.get(self.id, 0) for it in self.change.changes])
+    )
     used_before = property(lambda self: self.room and fractions.Fraction(self.room[0], self.room[2]))
     used_after = property(lambda self: self.room and fractions.Fraction(self.room[1], self.room[2]))
 
@@ -184,7 +194,9 @@ class Summary:
         if limit is None:
             return []
         over, under = limit.as_integer_ratio()
-        return [it for it in self.devices if it.room and it.room[1] * under > over * it.room[2] and it.room[1] > it.room[0]]
+        return [
+            it for it in self.devices if it.room and it.room[1] * under > over * it.room[2] and it.room[1] > it.room[0]
+        ]
 
     def looks_at_room(self):
         return looks_at_room(self.plan.cluster)
@@ -192,12 +204,17 @@ class Summary:
     def room_gap(self):
         """Returns what the files don't say of how full devices get, in words, or None; None too
         where they say nothing at all of it."""
-        gaining = [it.id for it in self.devices if not it.room and any(change.gains[it.id] > 0 for change in self.changes)]
+        gaining = [
+            it.id for it in self.devices if not it.room and any(change.gains[it.id] > 0 for change in self.changes)
+        ]
         if not self.looks_at_room() or not gaining:
             return None
         pools = [it.pool.name for it in self.changes if it.pool.bytes is None]
         if pools:
-            return f"df.json doesn't say what {'pool' if len(pools) == 1 else 'the pools'} {some(pools, 3)} {'takes' if len(pools) == 1 else 'take'}, and so not how full devices get"
+            return (
+                f"df.json doesn't say what {'pool' if len(pools) == 1 else 'the pools'} {some(pools, 3)}"
+                f" {'takes' if len(pools) == 1 else 'take'}, and so not how full devices get"
+            )
         return f"osd-df.json doesn't say how full {some([f'osd.{it}' for it in gaining], 3)} gets"
 
     def knows_room(self):
@@ -211,10 +228,12 @@ class Summary:
 
     def said(self, with_groups):
         found = {
-            "short": {"groups": self.short, "copies": self.missing, "groups_before": self.short_before, "copies_before": self.missing_before},
+            "short": {"groups": self.short, "copies": self.missing, "groups_before": self.short_before,
+                      "copies_before": self.missing_before},
             "moved": len(self.moves), "can_move": self.can_move, "copies": self.copies, "bytes": whole(self.bytes),
             "fullest": self.fullest and self.device_said(self.fullest), "as_full": [it.id for it in self.as_full],
-            "past_nearfull": [it.id for it in self.past["nearfull_ratio"]], "past_backfillfull": [it.id for it in self.past["backfillfull_ratio"]],
+            "past_nearfull": [it.id for it in self.past["nearfull_ratio"]],
+            "past_backfillfull": [it.id for it in self.past["backfillfull_ratio"]],
             "pools": [it.said() for it in self.changes], "usage": [self.device_said(it) for it in self.devices],
         }  # fmt: skip
         if with_groups:
@@ -223,9 +242,12 @@ class Summary:
 
     def device_said(self, it):
         return {
-            "device": it.id, "name": self.plan.map.name_of(it.id), "host": self.plan.tree.host(it.id), "copies_before": it.before, "copies_after": it.after,
-            "share_before": rounded(*it.expected_before, 2), "share_after": rounded(*it.expected_after, 2), "percent_after": it.percent(),
-            "primaries_before": it.primaries_before, "primaries_after": it.primaries_after, "bytes_before": whole(it.bytes_before), "bytes_after": whole(it.bytes_after),
+            "device": it.id, "name": self.plan.map.name_of(it.id), "host": self.plan.tree.host(it.id),
+            "copies_before": it.before, "copies_after": it.after,
+            "share_before": rounded(*it.expected_before, 2), "share_after": rounded(*it.expected_after, 2),
+            "percent_after": it.percent(),
+            "primaries_before": it.primaries_before, "primaries_after": it.primaries_after,
+            "bytes_before": whole(it.bytes_before), "bytes_after": whole(it.bytes_after),
             "used_before": ratio_said(it.used_before), "used_after": ratio_said(it.used_after),
         }  # fmt: skip
 
@@ -233,7 +255,11 @@ class Summary:
 def looks_at_room(cluster):
     """Returns whether the files say how full devices are, what pools take, and from which ratio on
     Ceph writes no more copies to a device. Otherwise no device counts as full."""
-    return "backfillfull_ratio" in cluster.ratios and bool(cluster.rooms) and any(it.bytes is not None for it in cluster.pools.values())
+    return (
+        "backfillfull_ratio" in cluster.ratios
+        and bool(cluster.rooms)
+        and any(it.bytes is not None for it in cluster.pools.values())
+    )
 
 
 def ratio_said(value):
@@ -264,7 +290,11 @@ class Bytes:
         self.is_known = bool(changes) and all(it.pool.bytes is not None for it in changes)
         totals = [(it.before.total(), it.pool.parts()[0]) for it in changes]
         self.measure = math.lcm(*(count * under or 1 for count, (_, under) in totals))
-        self.each = [it.pool.bytes * (self.measure // count) if count else 0 for it, (count, _) in zip(changes, totals)] if self.is_known else []
+        self.each = (
+            [it.pool.bytes * (self.measure // count) if count else 0 for it, (count, _) in zip(changes, totals)]
+            if self.is_known
+            else []
+        )
         self.parts = [each * over // under for each, (_, (over, under)) in zip(self.each, totals)]
 
     def of(self, copies):
@@ -280,7 +310,11 @@ class Levels:
 
     def __init__(self, plan):
         rooms, known = plan.cluster.rooms, bool(plan.pools) and all(it.bytes is not None for it in plan.pools.values())
-        devices = [it for it in plan.tree.placed_devices() if it in plan.known and it in rooms and rooms[it].size > 0] if known else []
+        devices = (
+            [it for it in plan.tree.placed_devices() if it in plan.known and it in rooms and rooms[it].size > 0]
+            if known
+            else []
+        )
         self.used = {it: rooms[it].used_after() for it in devices}
         self.order, level = [], lambda it: rooms[it].used / rooms[it].size
         # as in find_fullest() few are compared exactly

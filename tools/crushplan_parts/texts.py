@@ -17,9 +17,16 @@ def limit_of(map_, rule):
     """Returns why the tree of a rule is too large for a text, or None."""
     buckets = len(reached_buckets(map_, rule))
     if buckets > MOST_BUCKETS:
-        return f"below its rule {map_.rules[rule].name} are {counted(buckets, 'bucket')}, and crushcalc takes {MOST_BUCKETS:,}"
+        return (
+            f"below its rule {map_.rules[rule].name} are {counted(buckets, 'bucket')}, and crushcalc takes"
+            f" {MOST_BUCKETS:,}"
+        )
     devices = len(map_.reached(map_.rules[rule]))
-    return f"below its rule {map_.rules[rule].name} are {counted(devices, 'device')}, and crushcalc takes {MOST_DEVICES:,}" if devices > MOST_DEVICES else None
+    return (
+        f"below its rule {map_.rules[rule].name} are {counted(devices, 'device')}, and crushcalc takes {MOST_DEVICES:,}"
+        if devices > MOST_DEVICES
+        else None
+    )
 
 
 class Shelf:
@@ -30,7 +37,9 @@ class Shelf:
 
     def takes(self, rule, buckets, rows):
         both = {**self.buckets, **buckets}
-        return len(both) <= MOST_BUCKETS and all(self.rows.get(it) == rows.get(it) for it in both if it in self.buckets and it in buckets)
+        return len(both) <= MOST_BUCKETS and all(
+            self.rows.get(it) == rows.get(it) for it in both if it in self.buckets and it in buckets
+        )
 
 
 class Texts:
@@ -51,7 +60,9 @@ class Texts:
             shelf[0].buckets.update(buckets)
             shelf[0].rules += [] if pool.rule in shelf[0].rules else [pool.rule]
             shelf[1].append(pool)
-        self.all = [self.written(shelf, own, known) for shelf, own in shelves] or [Text(map_, [], [], known - map_.devices.keys())]
+        self.all = [self.written(shelf, own, known) for shelf, own in shelves] or [
+            Text(map_, [], [], known - map_.devices.keys())
+        ]
 
     def written(self, shelf, pools, known):
         map_ = self.map

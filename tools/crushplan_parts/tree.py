@@ -45,7 +45,10 @@ class Tree:
 
     def path(self, device):
         """Returns the types and names of the buckets above a device."""
-        return {self.map.types.get(self.map.buckets[it].type, "?"): self.map.buckets[it].name for it in reversed(self.ancestors(device))}
+        return {
+            self.map.types.get(self.map.buckets[it].type, "?"): self.map.buckets[it].name
+            for it in reversed(self.ancestors(device))
+        }
 
     def item(self, name):
         """Returns the id of a name, a device (osd.3 or 3) or a bucket. A Fault has the nearest."""
@@ -66,7 +69,9 @@ class Tree:
         """Returns the items of a type that have devices: buckets, or the devices themselves."""
         if number == 0:
             return self.placed_devices()
-        return [it.id for it in self.map.buckets.values() if it.type == number and not it.shadow and self.map.below(it.id)]
+        return [
+            it.id for it in self.map.buckets.values() if it.type == number and not it.shadow and self.map.below(it.id)
+        ]
 
     def host_type(self):
         """Returns the number of the type of most buckets that have devices, or None."""

@@ -38,11 +38,16 @@ class Commands:
             return
         ids = [DEVICE.fullmatch(it) for it in words]
         if None in ids or len(ids) != (parts[1] == PRIMARY):
-            raise Fault(f"{where}: it wants {'one device' if parts[1] == PRIMARY else 'no device'} behind the group, and has {' '.join(words) or 'none'}")
+            raise Fault(
+                f"{where}: it wants {'one device' if parts[1] == PRIMARY else 'no device'} behind the group, and has"
+                f" {' '.join(words) or 'none'}"
+            )
         self.primaries[key] = int(ids[0][1]) if ids else None
 
     def devices_of(self, key):
-        return [it for pair in self.pairs.get(key, ()) for it in pair] + ([self.primaries[key]] if self.primaries.get(key) is not None else [])
+        return [it for pair in self.pairs.get(key, ()) for it in pair] + (
+            [self.primaries[key]] if self.primaries.get(key) is not None else []
+        )
 
 
 def read_commands(path):
@@ -58,7 +63,10 @@ def read_commands(path):
         where = f"{name}: line {number}"
         parts = COMMAND.fullmatch(line)
         if not parts or parts[1] not in (PAIRS, NO_PAIRS, PRIMARY, NO_PRIMARY):
-            raise Fault(f"{where}: it isn't 'ceph osd pg-upmap-items GROUP FROM TO ..', 'ceph osd pg-upmap-primary GROUP DEVICE', nor one with rm- before: {line[:60]}")
+            raise Fault(
+                f"{where}: it isn't 'ceph osd pg-upmap-items GROUP FROM TO ..', 'ceph osd pg-upmap-primary GROUP"
+                f" DEVICE', nor one with rm- before: {line[:60]}"
+            )
         found.take(parts, where)
     return found
 
@@ -83,7 +91,10 @@ def checked(plan, commands):
         if known is None:
             raise Fault(f"{where}: there is no pool {pool}")
         if group >= known.pg_num:
-            raise Fault(f"{where}: pool {known.name} has {counted(known.pg_num, 'group')}, none of which is {known.group_name(group)}")
+            raise Fault(
+                f"{where}: pool {known.name} has {counted(known.pg_num, 'group')}, none of which is"
+                f" {known.group_name(group)}"
+            )
         for device in commands.devices_of(key):
             if device not in plan.known:
                 raise Fault(f"{where}: there is no device osd.{device}")
@@ -92,7 +103,17 @@ def checked(plan, commands):
         (found if pool in plan.pools else left_out).setdefault(pool, []).append(group)
     for pool, groups in left_out.items():
         names = [plan.cluster.pools[pool].group_name(it) for it in sorted(groups)]
-        plan.notes.append(Note("upmap", f"what the list does to {counted(len(names), 'group')} of {plan.pools_text([pool])} ({some(names)}), which isn't computed", pools=[pool], groups=names))
+        plan.notes.append(
+            Note(
+                "upmap",
+                (
+                    f"what the list does to {counted(len(names), 'group')} of"
+                    f" {plan.pools_text([pool])} ({some(names)}), which isn't computed"
+                ),
+                pools=[pool],
+                groups=names,
+            )
+        )
     return found, left_out
 
 
@@ -103,7 +124,10 @@ class Lists:
         self.plan, run = plan, plan.run(wanted)
         usages = {pool: run.usage(pool) for pool in wanted}
         before = {pool: run.lists(pool, own) for pool, own in wanted.items()}
-        self.pairs = {pool: {it: commands.pairs.get((pool, it), plan.pairs[pool].get(it, [])) for it in own} for pool, own in wanted.items()}
+        self.pairs = {
+            pool: {it: commands.pairs.get((pool, it), plan.pairs[pool].get(it, [])) for it in own}
+            for pool, own in wanted.items()
+        }
         exceptions = plan.exceptions.with_primaries(commands.primaries)
         after = {pool: run.lists(pool, own, self.pairs[pool], exceptions) for pool, own in wanted.items()}
         plan.answer(run)
@@ -116,13 +140,30 @@ class Lists:
         for pool, own in self.pairs.items():
             old, new, known = self.before[pool], self.after[pool], self.plan.pools[pool]
             # another order alone, by another primary, moves nothing
-            moves = [Moved(known, group, old[group], new[group]) for group in sorted(own) if old[group].up != new[group].up and (known.kind == "erasure" or set(old[group].up) != set(new[group].up))]
+            moves = [
+                Moved(known, group, old[group], new[group])
+                for group in sorted(own)
+                if old[group].up != new[group].up
+                and (known.kind == "erasure" or set(old[group].up) != set(new[group].up))
+            ]
             found.append(PoolChange(known, self.usages[pool], set(), moves))
         return found
 
     def rows(self, commands):
         """Returns what is said of each group."""
-        return [row_of(self.plan, self.plan.pools[pool], group, own[group], commands, self.before[pool][group], self.after[pool][group]) for pool, own in self.pairs.items() for group in sorted(own)]
+        return [
+            row_of(
+                self.plan,
+                self.plan.pools[pool],
+                group,
+                own[group],
+                commands,
+                self.before[pool][group],
+                self.after[pool][group],
+            )
+            for pool, own in self.pairs.items()
+            for group in sorted(own)
+        ]
 
 
 def upmap(plan, asked):
@@ -137,19 +178,64 @@ def upmap(plan, asked):
     refused, idle = [it for it in rows if it["breaks"]], [it for it in rows if it["remarks"]]
     cut = [it for it in rows if not it["breaks"] and it["kept"] != it["pairs"]]
     status = 1 if refused or cut else 2 if left_out else 0
-    sentence = ("no: " if refused or cut else "unknown: " if left_out else "yes: ") + f"{counted(moved, 'group')} {'moves' if moved == 1 else 'move'}, and {counted(copies, *COPY)} {'is' if copies == 1 else 'are'} written anew"
+    sentence = (
+        ("no: " if refused or cut else "unknown: " if left_out else "yes: ")
+        + f"{counted(moved, 'group')} {'moves' if moved == 1 else 'move'}, and"
+        f" {counted(copies, *COPY)} {'is' if copies == 1 else 'are'} written anew"
+    )
     if not rows and not left_out:
         sentence = f"yes: no group moves, since {'standard input' if asked.file == '-' else asked.file} has no commands"
     primaries = sum(it["primary_before"] != it["primary_after"] for it in rows)
-    sentence += f"; {counted(primaries, 'primary', 'primaries')} {'changes' if primaries == 1 else 'change'}" if commands.primaries else ""
-    sentence += refusals(refused, cut, idle) + (f"; of {plan.pools_text(left_out)} nothing is computed" if left_out else "") + "."
-    blocks = [Table(("group", "pairs", "before", "after", "copies", "remark"), [(it["id"], pairs_text(it["pairs"]), devices_text(it["before"]), devices_text(it["after"]), it["copies"], remark_of(it)) for it in rows]) if rows else ""]
+    sentence += (
+        f"; {counted(primaries, 'primary', 'primaries')} {'changes' if primaries == 1 else 'change'}"
+        if commands.primaries
+        else ""
+    )
+    sentence += (
+        refusals(refused, cut, idle)
+        + (f"; of {plan.pools_text(left_out)} nothing is computed" if left_out else "")
+        + "."
+    )
+    blocks = [
+        (
+            Table(
+                ("group", "pairs", "before", "after", "copies", "remark"),
+                [
+                    (
+                        it["id"],
+                        pairs_text(it["pairs"]),
+                        devices_text(it["before"]),
+                        devices_text(it["after"]),
+                        it["copies"],
+                        remark_of(it),
+                    )
+                    for it in rows
+                ],
+            )
+            if rows
+            else ""
+        )
+    ]
     even = evenness(plan, changes)
     blocks.append(even_text(even) + (f" Bytes: {sized(bytes_)}." if bytes_ is not None else ""))
     fields = {"moved": moved, "copies": copies, "bytes": whole(bytes_), "groups": rows, "evenness": even}
     heads = ["pool", "group", "id", "pairs", "before", "after", "copies", "breaks", "remarks"]
-    own = [heads] + [[it["pool"], it["group"], it["id"], pairs_text(it["pairs"]), listed(it["before"]), listed(it["after"]), it["copies"], it["breaks"] or "", "; ".join(it["remarks"])] for it in rows]
-    return Answer(status, sentence, fields, blocks, own, lambda: changed_devices(plan, changes))
+    own = [heads] + [
+        [
+            it["pool"],
+            it["group"],
+            it["id"],
+            pairs_text(it["pairs"]),
+            listed(it["before"]),
+            listed(it["after"]),
+            it["copies"],
+            it["breaks"] or "",
+            "; ".join(it["remarks"]),
+        ]
+        for it in rows
+    ]
+    answer = Answer(status, sentence, fields, blocks, own, lambda: changed_devices(plan, changes))
+    return answer.of({it["pool"] for it in rows})
 
 
 def changed_devices(plan, changes):
@@ -161,14 +247,21 @@ def refusals(refused, cut, idle):
     """Says what Ceph doesn't keep of a list."""
     words = f"; {counted(len(refused), 'group')} would break the rule, and Ceph removes such items" if refused else ""
     if cut:
-        words += f"; of {counted(len(cut), 'group')} Ceph removes pairs again, and keeps {some([it['id'] + ' ' + pairs_text(it['kept']) for it in cut], 3)}"
+        words += (
+            f"; of {counted(len(cut), 'group')} Ceph removes pairs again, and keeps"
+            f" {some([it['id'] + ' ' + pairs_text(it['kept']) for it in cut], 3)}"
+        )
     return words + (f"; of {counted(len(idle), 'group')} a pair or a primary has no effect" if idle else "")
 
 
 def remark_of(it):
     """Returns what is to be said of a group."""
     changed = it["primary_before"] is not None and it["primary_after"] not in (it["primary_before"], None)
-    primary = [f"primary osd.{it['primary_before']} becomes osd.{it['primary_after']}"] if changed and it["before"] and set(it["before"]) == set(it["after"]) else []
+    primary = (
+        [f"primary osd.{it['primary_before']} becomes osd.{it['primary_after']}"]
+        if changed and it["before"] and set(it["before"]) == set(it["after"])
+        else []
+    )
     return "; ".join(([it["breaks"]] if it["breaks"] else []) + it["remarks"] + primary)
 
 
@@ -184,8 +277,10 @@ def row_of(plan, pool, group, pairs, commands, before, after):
     if primary is not None and after.primary != primary:
         remarks.append(f"osd.{primary} isn't the primary by it: no effect")
     return {
-        "pool": pool.id, "group": group, "id": pool.group_name(group), "pairs": [list(it) for it in pairs], "raw": after.raw, "before": before.up, "after": after.up,
-        "primary_before": before.primary, "primary_after": after.primary, "copies": move.copies, "breaks": keeper.broken(pool, items) if pairs else None, "remarks": remarks,
+        "pool": pool.id, "group": group, "id": pool.group_name(group), "pairs": [list(it) for it in pairs],
+        "raw": after.raw, "before": before.up, "after": after.up,
+        "primary_before": before.primary, "primary_after": after.primary, "copies": move.copies,
+        "breaks": keeper.broken(pool, items) if pairs else None, "remarks": remarks,
         "kept": [list(it) for it in keeper.kept_at_last(pool, after.raw, pairs, list_)[0]],
     }  # fmt: skip
 
@@ -195,7 +290,10 @@ def evenness(plan, changes):
     in these pools."""
     found = {}
     for it in devices_of(plan, changes):
-        for name, copies, expected in (("before", it.before, it.expected_before), ("after", it.after, it.expected_after)):
+        for name, copies, expected in (
+            ("before", it.before, it.expected_before),
+            ("after", it.after, it.expected_after),
+        ):
             of = percent(copies, expected)
             if of is not None:
                 own = found.setdefault(name, {"least": of, "greatest": of})
@@ -206,4 +304,8 @@ def evenness(plan, changes):
 def even_text(even):
     if not even:
         return ""
-    return "Of its share a device has " + ", ".join(f"{it['least']}% to {it['greatest']}% {name}" for name, it in even.items()) + "."
+    return (
+        "Of its share a device has "
+        + ", ".join(f"{it['least']}% to {it['greatest']}% {name}" for name, it in even.items())
+        + "."
+    )

@@ -99,7 +99,11 @@ class Keeper:
                     for it in items[cursor : cursor + max(places, 0)]:
                         cursor += 1
                         if it not in self.devices_of(root):
-                            return "a place of it has no device" if it is None else f"osd.{it} isn't below what the rule takes"
+                            return (
+                                "a place of it has no device"
+                                if it is None
+                                else f"osd.{it} isn't below what the rule takes"
+                            )
                 root, types = 0, {}
         return None
 

@@ -61,6 +61,8 @@ class Wrapper:
 
     def __init__(self, map_):
         self.map = map_
+        self.places = None  # the buckets that have each item, found when they are asked for
+        self.later = None  # in the midst of many changes what waits for the last of them
 
     # ---- what there is
 
@@ -78,7 +80,12 @@ class Wrapper:
 
     def holders(self, item):
         """Returns the buckets that have an item, shadows too; a hole is osd.0 to Ceph."""
-        return [it for it in self.buckets() if place_of(it, item) is not None]
+        if self.places is None:
+            self.places = {}
+            for bucket in self.buckets():
+                for own in {0 if it is None else it for it, _ in bucket.items}:
+                    self.places.setdefault(own, []).append(bucket)
+        return list(self.places.get(item, ()))
 
     def stands(self, item):
         return bool(self.holders(item))
@@ -155,6 +162,9 @@ class Wrapper:
     def sum_sets(self):
         """Gives each bucket in the rows of weight sets the sum of its own, from below; a bucket of
         straw2 that lacks a row gets one of its weights."""
+        if self.later is not None:
+            self.later[self.sum_sets] = True
+            return
         for own in self.map.weight_sets.values():
             count = positions_of(own)
             for bucket in self.leaves_first() if own.rows else ():
@@ -264,6 +274,7 @@ class Wrapper:
                 f"the monitor ends: {bucket.name} is a uniform bucket whose items have weight, and Ceph puts a new "
                 "one in with 0"
             )
+        self.places = None
         bucket.items.append((item, weight))
         for own in self.map.weight_sets.values():
             for row in own.rows.get(bucket.id, ()):
@@ -278,7 +289,10 @@ class Wrapper:
                 del row[place]
         if bucket.alg != "tree":
             del bucket.items[place]
+            if self.places is not None and place_of(bucket, item) is None:
+                self.places[item] = [it for it in self.places[item] if it is not bucket]
             return
+        self.places = None
         bucket.items[place] = (None, 0)
         if (
             bucket.items
@@ -341,12 +355,22 @@ class Wrapper:
         if item < 0 and not unlink:
             self.check_removal(item)
         found = False
-        for bucket in self.buckets():
+        for bucket in self.holders(item):
             while bucket.id in self.map.buckets and real_place(bucket, item) is not None:
                 self.adjust_in(bucket, item, 0)
                 self.take_out(bucket, item)
                 found = True
         return self.forget(item, unlink) or found
+
+    def each(self, items, act):
+        """Does something to items, one after the other. Sums of weight sets and trees of classes
+        are made once, behind the last: no change of a weight and no removal depends on those."""
+        self.later = {}
+        for it in items:
+            act(it)
+        later, self.later = self.later, None
+        for it in later:
+            it()
 
     def check_removal(self, item):
         if self.map.buckets[item].items:
@@ -378,6 +402,7 @@ class Wrapper:
             return False
         if item < 0 and not unlink:
             del self.map.buckets[item]
+            self.places = None
             for own in self.map.weight_sets.values():
                 own.rows.pop(item, None)
         if item >= 0:
@@ -453,7 +478,10 @@ class Wrapper:
     def rebuild(self):
         """Makes the buckets of single classes anew (rebuild_roots_with_classes): a pair of a bucket
         and a class keeps its id, and a new one gets the highest that is free and was none's."""
-        self.map.kept = {}
+        if self.later is not None:
+            self.later[self.rebuild] = True
+            return
+        self.map.kept, self.places = {}, None
         old, used = self.map.shadow_ids, set(self.map.shadow_ids.values())
         self.forget_classes()
         for id_ in used:
@@ -463,6 +491,12 @@ class Wrapper:
         for root in self.roots():
             for class_ in self.map.class_names:
                 self.clone(root, class_, old, used, sums)
+
+    def make_shadows(self, ids):
+        """Makes the buckets of single classes that have these ids, by bucket and class."""
+        sums, used = {key: {} for key in self.map.weight_sets}, set(ids.values())
+        for bucket, class_ in ids:
+            self.clone(bucket, class_, ids, used, sums)
 
     def forget_classes(self):
         """Forgets the classes that no device has and no rule takes (cleanup_dead_classes)."""

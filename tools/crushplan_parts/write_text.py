@@ -43,11 +43,11 @@ class Text:
         self.names, self.items = Names(), {}
         self.with_classes, self.rows, self.whole = with_classes, rows or {}, None
         known = set(devices) if rows is not None else {*map_.devices, *devices}
-        self.fillers = iter(free_ids(map_, known))
+        fillers = free_ids(map_, known)
         self.filled = {}  # the device that stands in a hole, by its bucket and place
         for bucket in buckets:
             for place in map_.buckets[bucket].holes():
-                self.filled[bucket, place] = next(self.fillers)
+                self.filled[bucket, place] = next(fillers)
         if any(map_.buckets[it].alg == "straw2" for it in buckets):
             self.lines.append(MARK)
         self.own_devices = known
@@ -81,12 +81,18 @@ class Text:
             self.lines.append(f"tunable {name} {value}")
 
     def write_devices(self, known):
-        devices = {**{id_: self.map.devices.get(id_, f"osd.{id_}") for id_ in known}, **{id_: f"hole.{id_}" for id_ in self.filled.values()}}
+        devices = {
+            **{id_: self.map.devices.get(id_, f"osd.{id_}") for id_ in known},
+            **{id_: f"hole.{id_}" for id_ in self.filled.values()},
+        }
         for id_, name in sorted(devices.items()):
             self.items[id_] = self.names.give(name, f"device-{id_}")
             self.declare(("device", id_))
             class_ = self.map.classes.get(id_)
-            self.lines.append(f"device {id_} {self.items[id_]}" + (f" class {class_}" if class_ and self.with_classes and NAME.fullmatch(class_) else ""))
+            self.lines.append(
+                f"device {id_} {self.items[id_]}"
+                + (f" class {class_}" if class_ and self.with_classes and NAME.fullmatch(class_) else "")
+            )
 
     def write_types(self):
         names = Names()
@@ -110,12 +116,18 @@ class Text:
         for place, (item, weight) in enumerate(bucket.items):
             item = self.filled[bucket.id, place] if item is None else item
             weight = weight if row is None else row[place]
-            self.lines.append(f"\titem {self.items[item]} weight {exact(weight)}" + (f" pos {place}" if bucket.alg == "tree" else ""))
+            self.lines.append(
+                f"\titem {self.items[item]} weight {exact(weight)}" + (f" pos {place}" if bucket.alg == "tree" else "")
+            )
         self.lines.append("}")
 
     def write_rule(self, rule):
         self.declare(("rule", rule.id))
-        self.lines += [f"rule {Names().give(rule.name, f'rule-{rule.id}')} {{", f"\tid {rule.id}", f"\ttype {rule.kind}"]
+        self.lines += [
+            f"rule {Names().give(rule.name, f'rule-{rule.id}')} {{",
+            f"\tid {rule.id}",
+            f"\ttype {rule.kind}",
+        ]
         if rule.sizes:
             self.lines += [f"\tmin_size {rule.sizes[0]}", f"\tmax_size {rule.sizes[1]}"]
         self.lines += [f"\tstep {self.step(it)}" for it in rule.steps if it[0] != "noop"]
@@ -131,7 +143,11 @@ class Text:
 
 def free_ids(map_, more):
     """Yields ids that no device has, the ones behind the last first."""
-    taken = {*map_.devices, *more, *(item for bucket in map_.buckets.values() for item, _ in bucket.items if item is not None and item >= 0)}
+    taken = {
+        *map_.devices,
+        *more,
+        *(item for bucket in map_.buckets.values() for item, _ in bucket.items if item is not None and item >= 0),
+    }
     last = max(taken, default=-1)
     yield from range(last + 1, MOST_DEVICES)
     yield from (it for it in range(last) if it not in taken)

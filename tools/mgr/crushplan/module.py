@@ -11,6 +11,7 @@ import shutil
 import sys
 import threading
 
+import mgr_module
 from mgr_module import HandleCommandResult, MgrModule, Option
 
 HERE = pathlib.Path(__file__).resolve().parent
@@ -34,10 +35,12 @@ FORMS = {"plain": [], "json": ["--json"], "json-pretty": ["--json"]}
 
 class Command:
     """A command of crushplan as one of `ceph`: words that stand by themselves, options that have a
-    value, and flags. `reads` is whether it takes a file, by `-i FILE`."""
+    value, and flags. `reads` is whether it takes a file, by `-i FILE`; `own` are options that it
+    always has."""
 
-    def __init__(self, name, words=(), options=(), flags=(), reads=False):
+    def __init__(self, name, words=(), options=(), flags=(), reads=False, own=()):
         self.name, self.words, self.options, self.flags, self.reads = name, words, options, flags, reads
+        self.own = own
 
     def declared(self):
         """Returns the command as the manager declares it."""
@@ -52,15 +55,20 @@ class Command:
     def asked(self, given, folder):
         """Returns crushplan's words. None that is given can become another option: each is a value,
         or stands behind all options."""
-        options = [f"--{name}={it}" for name, it in values_of(given, self.options)]
-        flags = [f"--{name}" for name in map(plain, self.flags) if given.get(name)]
+        options = [f"--{dashed(name)}={it}" for name, it in values_of(given, self.options)]
+        flags = [f"--{dashed(name)}" for name in map(plain, self.flags) if given.get(name)]
         words = [it for _, it in values_of(given, self.words)] + ["-"] * self.reads
-        return [self.name, *options, *flags, str(folder), "--", *words]
+        return [self.name, *self.own, *options, *flags, str(folder), "--", *words]
 
 
 def plain(name):
     """Returns the name of a word or option that may stand several times."""
     return name.partition(",")[0]
+
+
+def dashed(name):
+    """Returns an option of crushplan by its name in commands of the manager, which have no dash."""
+    return name.replace("_", "-")
 
 
 def values_of(given, names):
@@ -78,21 +86,31 @@ COMMANDS = (
     Command("usage", [], ["pool" + MANY, "by"], ["groups"]),
     Command("locate", ["pool", "objects" + MANY], ["group" + MANY]),
     Command("upmap", reads=True),
+    Command("plan", [], ["rate"], ["orders", "groups"], reads=True, own=["--no-files"]),
+    Command("balance", ["names" + MANY], ["class", "deviation", "moves", "until_fill", "for_bytes"], ["primaries"]),
 )
+
+
+def option(name, default, kind, desc, **bounds):
+    """Returns an option that may change while the module runs. The parameters of Option have other
+    places from release to release: each is named."""
+    return Option(name=name, default=default, type=kind, desc=desc, runtime=True, **bounds)
 
 
 class Module(MgrModule):
     COMMANDS = [it.declared() for it in COMMANDS]
+    if hasattr(mgr_module, "CLICommandBase"):  # from release 20 on a module has to have its own, which is empty here
+        CLICommand = mgr_module.CLICommandBase.make_registry_subtype("CrushplanCommand")
     NOTIFY_TYPES = []  # it asks by itself
     MODULE_OPTIONS = [
-        Option("program", "", "str", "the crushcalc to ask; by itself that beside crushplan or on PATH", runtime=True),
-        Option("service", "", "str", "a server of crushcalc in its place, as http://HOST:PORT", runtime=True),
-        Option("types", "host", "str", "of which types each bucket's failure is watched, as host,rack", runtime=True),
-        Option("interval", 60, "uint", "how many seconds lie between two looks at the cluster", min=1, runtime=True),
-        Option("seconds", 60, "uint", "how many seconds a command may take", min=1, runtime=True),
-        Option("watch_seconds", 900, "uint", "how many seconds a look may take", min=1, runtime=True),
-        Option("processes", 1, "uint", "how many programs run side by side", min=1, max=4, runtime=True),
-        Option("uncomputed", False, "bool", "whether pools that aren't computed are a health check", runtime=True),
+        option("program", "", "str", "the crushcalc to ask; by itself that beside crushplan or on PATH"),
+        option("service", "", "str", "a server of crushcalc in its place, as http://HOST:PORT"),
+        option("types", "host", "str", "of which types each bucket's failure is watched, as host,rack"),
+        option("interval", 60, "uint", "how many seconds lie between two looks at the cluster", min=1),
+        option("seconds", 60, "uint", "how many seconds a command may take", min=1),
+        option("watch_seconds", 900, "uint", "how many seconds a look may take", min=1),
+        option("processes", 1, "uint", "how many programs run side by side", min=1, max=4),
+        option("uncomputed", False, "bool", "whether pools that aren't computed are a health check"),
     ]
 
     def __init__(self, *args, **kwargs):
