@@ -37,7 +37,6 @@ export function totals(cluster, found, { before, after, map = cluster.map, only 
     return {
         moved: sum(found, (it) => it.moved), anew: sum(found, (it) => it.anew),
         short: sum(found, (it) => it.lacks.groups), missing: sum(found, (it) => it.lacks.copies),
-        stopped: sum(found, (it) => it.lacks.stopped),
         shortBefore: sum(found, (it) => it.lackedBefore.groups),
         missingBefore: sum(found, (it) => it.lackedBefore.copies), had: added(found, "had"),
         has: added(found, "has"), gains: added(found, "gains"), losses: added(found, "losses"),
@@ -47,15 +46,17 @@ export function totals(cluster, found, { before, after, map = cluster.map, only 
 }
 
 // The device that is fullest after the change: by bytes where these are known, else by what is
-// expected of it.
+// expected of it, or by its copies where nothing is expected of any.
 export function fullest(cluster, all) {
     const ids = [...cluster.map.byId.keys()].filter(
         (id) => cluster.map.devices.has(cluster.name(id)) && all.has(id)
     );
     const used = ids.filter((id) => all.rooms.usedAfter(id) !== null);
     const share = (id) => percent(all.has(id), all.expectedAfter.get(id) ?? 0);
-    const of = used.length ? all.rooms.usedAfter : share;
-    const found = (used.length ? used : ids).filter((id) => of(id) !== undefined);
+    const expected = ids.filter((id) => share(id) !== undefined);
+    const [of, found] = used.length
+        ? [all.rooms.usedAfter, used]
+        : expected.length ? [share, expected] : [all.has, ids];
     return found.length ? found.reduce((top, id) => (of(id) > of(top) ? id : top)) : null;
 }
 
@@ -89,8 +90,8 @@ export function answerRow(cluster, all, more = []) {
             ],
             top !== null && rooms.usedAfter(top) !== null && [
                 hundredths(rooms.usedAfter(top)),
-                `of its room is used `
-                    + `then${near === undefined ? "" : `; near-full is ${hundredths(near)}`}${past > 1 ? `, and ${count(past)} devices get past it` : ""}`,
+                `of its room is used then${near === undefined ? "" : `; near-full is ${hundredths(near)}`}`
+                    + (past > 1 ? `, and ${count(past)} devices get past it` : ""),
                 past ? "bad" : "", "room"
             ],
         ],
@@ -99,11 +100,11 @@ export function answerRow(cluster, all, more = []) {
 }
 
 // The answer in one sentence: whether every copy has a device, and how many groups move. `stopped`
-// is how many groups stop while devices are down, `keeping` how many copies stay on devices that a
-// rule takes by name, `broken` how many groups have exceptions that break their rule, `lacks` the
-// pools that aren't computed and may have to do with it, `stretched` those of which it isn't known
-// what stops. Nothing is known where the cluster itself says
-// that its groups lie otherwise.
+// is which groups stop while devices are down, by pool and how many copies are left, `keeping` how
+// many copies stay on devices that a rule takes by name, `broken` how many groups have exceptions
+// that break their rule, `lacks` the pools that aren't computed and may have to do with it,
+// `stretched` those of which it isn't known what stops. Nothing is known where the cluster itself
+// says that its groups lie otherwise.
 export function verdict(cluster, found, all, more = {}) {
     const { kind, head, rest } = answered(cluster, found, all, more), { doubt } = cluster.known;
     if (doubt)
@@ -114,18 +115,26 @@ export function verdict(cluster, found, all, more = {}) {
     return el("p", { class: `verdict ${kind}`, id: "verdict" }, el("strong", {}, head), rest);
 }
 
-function answered(cluster, found, all, { stopped = 0, keeping = 0, broken = 0, lacks = [], stretched = [] }) {
+// Which I/O stops while devices are down, and why.
+function stops(stopped) {
+    const groups = sum(stopped, (it) => it.groups), names = [...new Set(stopped.map((it) => it.pool.name))];
+    const [{ pool, copies }] = stopped, has = groups === 1 ? "has" : "have", one = stopped.length === 1;
+    const left = one ? `${copies ? many(copies, "copy", "copies") : "no copy"} left` : "fewer copies than min_size";
+    return `${many(groups, "group")} of ${names.length === 1 ? "pool" : "the pools"} ${some(names, 3)} ${has} `
+        + `${left} while the devices are down${one ? `, below min_size ${pool.min_size}` : ""}, `
+        + `so ${groups === 1 ? "its" : "their"} I/O stops`;
+}
+
+function answered(cluster, found, all, { stopped = [], keeping = 0, broken = 0, lacks = [], stretched = [] }) {
     const { rooms } = all, full = rooms.past("backfillfull_ratio"), near = nearText(rooms);
     const lacking = found.filter((it) => it.lacks.copies).map((it) => it.pool.name);
-    const moved = `${many(all.moved, "group")} ${all.moved === 1 ? "moves" : "move"}`;
+    const moved = all.moved ? `${many(all.moved, "group")} ${all.moved === 1 ? "moves" : "move"}` : "no group moves";
     const has = (it) => (it === 1 ? "has" : "have");
     const before = all.missingBefore === all.missing
         ? " (as many as before)"
         : all.missingBefore ? ` (${count(all.missingBefore)} before)` : "";
     const why = [
-        stopped
-            && `${many(stopped, "group")} ${has(stopped)} fewer copies than min_size while the devices are `
-                + `down, so ${stopped === 1 ? "its" : "their"} I/O stops`,
+        stopped.length && stops(stopped),
         all.missing
             && `${many(all.missing, "copy", "copies")} of ${lacking.length === 1 ? "pool" : "the pools"} `
                 + `${some(lacking, 3)} ${has(all.missing)} no device${before}`,
@@ -148,8 +157,7 @@ function answered(cluster, found, all, { stopped = 0, keeping = 0, broken = 0, l
         return { kind: "unknown", head: "Unknown", rest: `: ${unknown.join("; ")}; of what can, ${moved}.` };
     return {
         kind: "good", head: "Yes",
-        rest: `${near ? `, but ${near}` : ""}: ${all.moved ? moved : "no group moves"}, and every copy has `
-            + `${rooms.isKnown ? "room" : "a device"}.`
+        rest: `${near ? `, but ${near}` : ""}: ${moved}, and every copy has ${rooms.isKnown ? "room" : "a device"}.`
     };
 }
 

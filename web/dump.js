@@ -26,12 +26,16 @@ export class Fault extends Error {}
 
 const OF = {
     number: (it) => Number.isInteger(it), decimal: (it) => Number.isFinite(it),
-    text: (it) => typeof it === "string", list: (it) => Array.isArray(it)
+    text: (it) => typeof it === "string", list: (it) => Array.isArray(it), truth: (it) => typeof it === "boolean",
+    object: (it) => it !== null && typeof it === "object" && !Array.isArray(it)
 };
-const CALLED = { number: "a whole number", decimal: "a number", text: "a text", list: "a list" };
+const CALLED = {
+    number: "a whole number", decimal: "a number", text: "a text", list: "a list", truth: "true or false",
+    object: "an object"
+};
 
 // The value of a field, which has to be of a kind; `where` says of what.
-function field(of, name, kind, where, otherwise) {
+export function field(of, name, kind, where, otherwise) {
     if (of === null || typeof of !== "object") throw new Fault(`${where} isn't an object`);
     if (!(name in of)) {
         if (otherwise !== undefined) return otherwise;
@@ -41,7 +45,7 @@ function field(of, name, kind, where, otherwise) {
     return of[name];
 }
 
-function each(of, name, where, act, otherwise) {
+export function each(of, name, where, act, otherwise) {
     return field(of, name, "list", where, otherwise).map(
         (it, place) => act(it, `${where}: ${name}[${place}]`)
     );
@@ -69,14 +73,15 @@ function parsed(text) {
 
 function kindIn(whole) {
     if (whole.crushcalc) return "saved";
+    if ("crushplan" in whole) return "result";
     if (whole.buckets && whole.tunables) return "crush";
     if (whole.pools && whole.osds) return "osd";
     if (whole.pools && whole.stats) return "df";
     return whole.nodes && (whole.summary || whole.stray) ? "osdDf" : "other";
 }
 
-// Which JSON a text is ("crush", "osd", "df", "osdDf", "saved", or "other"), and what it says; no
-// kind where it can be a map's text.
+// Which JSON a text is ("crush", "osd", "df", "osdDf", "saved", "result", or "other"), and what it
+// says; no kind where it can be a map's text.
 export function kindOf(text) {
     if (!/^\ufeff?\s*[[{]/.test(text)) return {};
     try {

@@ -3,6 +3,7 @@ import { BUCKETS, DEVICES, computedPools, fits } from "./computable.js";
 import { pause } from "./dom.js";
 import { Fault, WRITES, isOfGroups, kindOf, readCrush, readOsd } from "./dump.js";
 import { marked, textsOf } from "./map_texts.js";
+import { WRITTEN } from "./read_result.js";
 import { readText } from "./read_text.js";
 import { readLong } from "./reading.js";
 import { many } from "./words.js";
@@ -31,7 +32,8 @@ async function fileIn(file) {
     const { kind = /^\ufeff?"?id"?,/.test(text) ? "states" : "text", whole } = kindOf(text);
     if (kind !== "other") return { name: file.name, kind, text, whole };
     const written = Object.values(WRITES).join(", ");
-    throw new Fault(`${file.name} is none of what 'crushplan fetch' writes (${written}), and no map text.`);
+    throw new Fault(`${file.name} is none of what 'crushplan fetch' writes (${written}), nor what `
+        + `${WRITTEN} writes, and no map text.`);
 }
 
 // What the files are: of each kind one. A folder that `crushplan fetch` wrote has the map twice.

@@ -2,6 +2,8 @@
 // differ. An empty place is -1. The worker and the page both use this.
 import { led } from "./settled.js";
 
+const NAMED = 6; // of the groups whose I/O stops
+
 // Lists, one after the other: those of `rows`, each a list that may have null at empty places.
 export function flat(lists) {
     const starts = new Int32Array(lists.length + 1);
@@ -54,16 +56,22 @@ export function present(list) {
 }
 
 // How many groups have fewer copies than the pool's size, how many copies these lack, and how many
-// groups have fewer than its min_size.
+// groups have fewer than its min_size: these also by how many copies are `left`, the fewest first,
+// with the first of them.
 export function lacking(pool, lists) {
-    const found = { groups: 0, copies: 0, stopped: 0 };
+    const found = { groups: 0, copies: 0, stopped: 0 }, left = [];
     for (let group = 0; group < pool.pg_num; group += 1) {
         const has = present(listAt(lists, group));
         if (has < pool.size) found.groups += 1;
         found.copies += Math.max(0, pool.size - has);
-        if (has < pool.min_size) found.stopped += 1;
+        if (has < pool.min_size) {
+            found.stopped += 1;
+            left[has] ??= { copies: has, groups: 0, first: [] };
+            left[has].groups += 1;
+            if (left[has].first.length < NAMED) left[has].first.push(group);
+        }
     }
-    return found;
+    return { ...found, left: left.filter(Boolean) };
 }
 
 // Of each device, by its id, how often it stands in the lists.

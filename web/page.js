@@ -6,7 +6,8 @@ import { forgetTenant, known, learn, note, tenants } from "./known.js";
 import { devicesBelow, readLongMap, readMap, signature } from "./map.js";
 import { LONGEST, dropLeft, leave } from "./copies.js";
 import { lyingByDevice, lyingByGroup } from "./lying.js";
-import { keepMap, keepWord } from "./remembered.js";
+import { keepMap, keepResult, keepWord, resultOf } from "./remembered.js";
+import { readResult } from "./read_result.js";
 import { tenantWith, tenantsOf } from "./sides.js";
 import { crushIn, filesOf, mapIn, osdIn } from "./files.js";
 import { Refused, importMap, takeOsd, takeRooms, takeSaved, takeStates } from "./take.js";
@@ -18,11 +19,14 @@ import { showUsage } from "./view_usage.js";
 import { showCompare } from "./view_compare.js";
 import { showDrain } from "./view_drain.js";
 import { showObject } from "./view_object.js";
+import { TITLES, showResult } from "./view_result.js";
 import { Stopped, working } from "./waiting.js";
 
 const VIEWS = {
     map: "Map", pools: "Pools", usage: "Usage", compare: "Compare", drain: "Drain", object: "Object"
 };
+// the view of an answer of crushplan, once one was dropped
+const RESULT = "result";
 // a name of one or two points would be another path
 const NAME = /^(?!\.{1,2}$)[A-Za-z0-9_.-]{1,64}$/;
 const NO_MAP = "Drop the map too: crush.json, or map.txt.";
@@ -141,14 +145,19 @@ async function makeTenant(name) {
 
 function place() {
     const [, tenant = "", view = "map", more = ""] = location.hash.split("/");
-    return { tenant: NAME.test(tenant) ? tenant : "", view: view in VIEWS ? view : "map", more };
+    const isThere = view in VIEWS || view === RESULT && resultOf();
+    return { tenant: NAME.test(tenant) ? tenant : "", view: isThere ? view : "map", more };
+}
+
+function viewsThere() {
+    return { ...VIEWS, ...resultOf() ? { [RESULT]: "Result" } : {} };
 }
 
 function tabs({ tenant, view }) {
     at("tabs").replaceChildren(
         ...(
             tenant
-                ? Object.entries(VIEWS).map(
+                ? Object.entries(viewsThere()).map(
                     ([it, text]) => el(
                         "a", { href: `#/${tenant}/${it}`, "aria-current": it === view && "page" }, text
                     )
@@ -166,7 +175,9 @@ function tabs({ tenant, view }) {
                 : []
         )
     );
-    document.title = tenant ? `${VIEWS[view]} of ${tenant}: crushcalc` : "crushcalc";
+    document.title = view === RESULT
+        ? `${TITLES[resultOf().command]}: crushcalc`
+        : tenant ? `${VIEWS[view]} of ${tenant}: crushcalc` : "crushcalc";
 }
 
 function put(section, focus) {
@@ -196,15 +207,16 @@ function viewOf({ view, more }, what) {
 
 let opening = null;
 
-// Shows the view as the service has it now. Until it is there the old one is dimmed, under its own
-// name.
+// Shows the view as the service has it now, and returns whether it does: not where another one was
+// asked for meanwhile. Until it is there the old one is dimmed, under its own name.
 async function refresh(what = {}) {
     const here = place();
+    let own = null;
     opening?.stop();
     at("main").setAttribute("aria-busy", "true");
     try {
         await working(`Opening ${VIEWS[here.view]}`, async (work) => {
-            opening = work;
+            opening = own = work;
             await openTenant(here.tenant, work);
             work.goesOn();
         });
@@ -212,6 +224,10 @@ async function refresh(what = {}) {
         tabs(here);
         if (what.said) at("said")?.focus();
         else if (what.focus) at("main").querySelector(what.focus)?.focus();
+        return true;
+    } catch (why) {
+        if (why instanceof Stopped && opening !== own) return false;
+        throw why;
     } finally {
         if (place().view === here.view && place().tenant === here.tenant)
             at("main").removeAttribute("aria-busy");
@@ -221,15 +237,15 @@ async function refresh(what = {}) {
 async function show(focus = true) {
     const here = place();
     say("");
-    if (!here.tenant) {
+    if (!here.tenant || here.view === RESULT) {
         opening?.stop();
+        opening = null;
         tabs(here);
         at("main").removeAttribute("aria-busy");
-        return put(start(), focus);
+        return put(here.view === RESULT ? showResult(resultOf(), here.tenant) : start(), focus);
     }
     try {
-        await refresh();
-        if (focus && place().view === here.view)
+        if (await refresh() && focus && place().view === here.view)
             at("main").querySelector("h1").focus({ preventScroll: true });
     } catch (why) {
         // another view was asked for meanwhile
@@ -409,10 +425,28 @@ async function takeMore(tenant, files, work) {
     );
 }
 
-// Files that were dropped or chosen: into the open cluster, or into a new one.
-async function take(list, name) {
+// An answer of crushplan, which is shown without a cluster and without the service.
+async function takeResult({ result, ...others }) {
+    const [other] = Object.values(others);
+    if (other) throw new Error(`${result.name} is shown by itself: drop it without ${other.name}.`);
+    await pause();
+    keepResult(readResult(result.whole, result.name));
+    await pause();
+    const address = `#/${place().tenant}/${RESULT}`;
+    if (location.hash !== address) history.pushState(null, "", address);
+    return show();
+}
+
+// Files that were dropped or chosen: into the open cluster, or into a new one, whose name is in a
+// field where the view has one.
+async function take(list, field) {
+    const name = field ?? el("input", { value: freeName() });
     try {
         const files = await filesOf(list), isNew = !place().tenant;
+        if (files.result) {
+            await takeResult(files);
+            return;
+        }
         if (isNew && !isName(name)) return;
         if (isNew) {
             // what can't be read makes no cluster

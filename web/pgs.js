@@ -77,7 +77,8 @@ export function comparedPool(pool, lists, said, why) {
 export function comparedText(parts) {
     const sum = (of) => parts.reduce((all, it) => all + of(it), 0), groups = sum((it) => it.count);
     const silent = sum((it) => it.silent), differ = sum((it) => it.differ);
-    const first = (all, of, between, more) => `${all.slice(0, NAMED).join(between)}${of > NAMED ? `${more} ${count(of - NAMED)} more` : ""}`;
+    const first = (all, of, between, more) =>
+        all.slice(0, NAMED).join(between) + (of > NAMED ? `${more} ${count(of - NAMED)} more` : "");
     const lie =
         `${count(groups - silent - differ)} of ${many(groups, "group")} ${groups === 1 ? "lies" : "lie"} as `
             + `computed`;
@@ -86,8 +87,11 @@ export function comparedText(parts) {
         ? `; of ${count(silent)} the cluster says nothing `
             + `(${first(parts.flatMap((it) => it.quiet), silent, ", ", " and")})`
         : "";
+    const others = differ
+        ? `; ${count(differ)} ${differ === 1 ? "differs" : "differ"}: ${first(lines, differ, "; ", "; and")}`
+        : "";
     return {
-        text: `${lie}${quiet}${differ ? `; ${count(differ)} ${differ === 1 ? "differs" : "differ"}: ${first(lines, differ, "; ", "; and")}` : ""}`,
+        text: `${lie}${quiet}${others}`,
         lines: lines.slice(0, LINES), differ
     };
 }

@@ -74,18 +74,21 @@ export function levelName(level) {
 // The table. `values` gives numbers of a device by their names, `columns` are figures made of
 // sums (`text`), `draw` draws a bar of sums with the greatest number `top` of all, `orders` are
 // ways to order places by a number of their sums, the greatest first. `mark` is what stands behind
-// a name.
+// a name, `begin` the level and the order that are shown first.
 export function placesTable(
     cluster,
-    { values, columns, draw, top, orders, mark = () => null, legend, file, id = "places", only = () => true }
+    {
+        values, columns, draw, top, orders, mark = () => null, legend, file, id = "places", only = () => true,
+        begin = {}
+    }
 ) {
     const { map } = cluster, levels = [...map.levels, "device"];
     const level = options(
-        el("select", { id: `${id}-level` }), levels.map((it) => [it, `by ${it}`]), levels[0]
+        el("select", { id: `${id}-level` }), levels.map((it) => [it, `by ${it}`]), begin.level ?? levels[0]
     );
     const order = options(
         el("select", { id: `${id}-order` }),
-        [["map", "as in the map"], ...orders.map(([key, text]) => [key, text])], "map"
+        [["map", "as in the map"], ...orders.map(([key, text]) => [key, text])], begin.order ?? "map"
     );
     const search = el("input", { type: "search", id: `${id}-search` }), body = el("tbody"), foot = el("div");
     const heads = el("tr");

@@ -56,7 +56,8 @@ function mending(name, text, take) {
         el(
             "p", {},
             `The text has ${many(found.holes, "hole")}: places of tree buckets from which devices were `
-                + `removed, which Ceph writes as its first device with the weight 0. ` + "A device of the weight 0 in each of them, which gets nothing, mends it: everything else is placed as Ceph places it."
+                + `removed, which Ceph writes as its first device with the weight 0. A device of the weight 0 `
+                + `in each of them, which gets nothing, mends it: everything else is placed as Ceph places it.`
         ),
         el(
             "div", { class: "buttons" },

@@ -2,6 +2,7 @@
 // as the page is open.
 
 const words = new Map(), maps = new Map();
+let result = null;
 
 // What pgs.json says of the groups of a cluster, by pool.
 export function keepWord(tenant, said) {
@@ -19,4 +20,13 @@ export function keepMap(tenant, map) {
 
 export function mapOf(tenant) {
     return maps.get(tenant);
+}
+
+// The answer of crushplan that was dropped last, or null.
+export function keepResult(it) {
+    result = it;
+}
+
+export function resultOf() {
+    return result;
 }

@@ -63,11 +63,12 @@ function gainsAndLosses(cluster, found, name, expected) {
             )
         },
     });
+    const lines = gone.map(
+        (id) => `${cluster.name(id)} (loses ${losses.get(id) ?? 0}, gains ${gains.get(id) ?? 0})`
+    );
     return [
         gone.length > 0 && el(
-            "p", { class: "note" },
-            `Devices that the newest version doesn't have: `
-                + `${gone.map((id) => `${cluster.name(id)} (loses ${losses.get(id) ?? 0}, gains ${gains.get(id) ?? 0})`).join(", ")}.`
+            "p", { class: "note" }, `Devices that the newest version doesn't have: ${lines.join(", ")}.`
         ),
         table
     ];

@@ -6,6 +6,7 @@ import {
     answerRow, beforeAfter, beside, changePicture, groupsFolded, leftOutNote, poolLines, totals, verdict
 } from "./change_view.js";
 import { figures } from "./figures.js";
+import { idOf } from "./groups.js";
 import { partsOf } from "./shares.js";
 import { count, many, some } from "./words.js";
 import { namesOf, picker } from "./picker.js";
@@ -86,14 +87,41 @@ function isStretched({ known }, pool) {
     return known.stretched.includes(pool.id);
 }
 
-// How many groups stop while devices are down, as far as is known.
+// Which groups stop while devices are down, as far as is known: pools, each with how many copies
+// are left of how many groups.
 function stoppedIn(cluster, found) {
-    return found.reduce((sum, it) => sum + (isStretched(cluster, it.pool) ? 0 : it.lacks.stopped), 0);
+    return found.filter((it) => !isStretched(cluster, it.pool)).flatMap(
+        ({ pool, lacks }) => lacks.left.map((it) => ({ pool, ...it }))
+    );
+}
+
+// A line for each pool whose groups stop, and how many copies are left.
+function stoppedTable(stopped) {
+    const heads = ["pool", "size", "min_size", "copies left", "groups", "which"];
+    const row = ({ pool, copies, groups, first }) => {
+        const numbers = [pool.size, pool.min_size, copies, groups], rest = groups - first.length;
+        const names = first.map((it) => idOf(pool, it)).join(", ");
+        return el(
+            "tr", {}, el("th", { scope: "row", class: "place" }, pool.name),
+            numbers.map((it) => el("td", { class: "number" }, count(it))),
+            el("td", {}, rest ? `${names} and ${count(rest)} more` : names)
+        );
+    };
+    const head = (it, at) => el("th", { scope: "col", class: at && at < 5 ? "number" : "place" }, it);
+    return stopped.length > 0 && el(
+        "div",
+        { class: "card scroll", id: "stops", tabindex: "0", role: "region", "aria-label": "Groups that stop" },
+        el(
+            "table", { "aria-label": "Groups that stop" }, el("thead", {}, el("tr", {}, heads.map(head))),
+            el("tbody", {}, stopped.map(row))
+        )
+    );
 }
 
 // What holds while the devices are down and not out yet.
 function atOnce(cluster, found, stretched) {
-    const degraded = found.reduce((all, it) => all + it.lacks.groups, 0), stopped = stoppedIn(cluster, found);
+    const degraded = found.reduce((all, it) => all + it.lacks.groups, 0), stops = stoppedIn(cluster, found);
+    const stopped = stops.reduce((all, it) => all + it.groups, 0);
     const unknown = found.filter((it) => !it.pool.min_size).map((it) => it.pool.name);
     return [
         el("h2", {}, "At once, while they are down"),
@@ -108,6 +136,7 @@ function atOnce(cluster, found, stretched) {
             ],
             "at-once"
         ),
+        stoppedTable(stops),
         unknown.length > 0 && el(
             "p", { class: "note" },
             `The min_size of ${unknown.join(", ")} isn't known here, so no group of it is counted as stopped.`
@@ -166,7 +195,7 @@ function shown(cluster, pools, ids, fails, results) {
         );
     };
     const file = `${cluster.tenant}-${namesOf(cluster, ids)[0]}`;
-    const stopped = fails ? stoppedIn(cluster, results[0]) : 0;
+    const stopped = fails ? stoppedIn(cluster, results[0]) : [];
     return [
         el(
             "h2", { class: "title", id: "answered", tabindex: "-1" },

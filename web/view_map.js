@@ -18,7 +18,8 @@ import { filling, working } from "./waiting.js";
 
 // writes the states of a cluster's devices as the service takes them
 const STATES =
-    'ceph osd dump -f json | jq -r \'"id,reweight,up", (.osds[] | "\\(.osd),\\(.weight * 65536 | round),\\(.up)")\' >states.csv';
+    'ceph osd dump -f json | jq -r \'"id,reweight,up", '
+        + '(.osds[] | "\\(.osd),\\(.weight * 65536 | round),\\(.up)")\' >states.csv';
 const DUMPS = "ceph osd crush dump -f json >crush.json && ceph osd dump -f json >osd.json";
 const MORE =
     "ceph df detail -f json >df.json; ceph osd df -f json >osd-df.json; ceph pg dump pgs_brief -f json "
@@ -52,6 +53,11 @@ export function dropBox(take, more) {
             "p", { class: "hint" }, "Or a map text alone, as ",
             command("ceph osd getcrushmap -o map.bin && crushtool -d map.bin -o map.txt"),
             " writes it: its weights are rounded to three decimals, and those of crush.json are exact."
+        ),
+        el(
+            "p", { class: "hint" }, "Or an answer of crushplan, by itself: what ",
+            command("crushplan plan DIR FILE --json"), " or ", command("crushplan balance DIR --json"),
+            " writes is shown step by step, or pool by pool."
         ),
         more
     );
@@ -283,17 +289,21 @@ function lyingOf({ known }) {
 
 // Copies that a closed browser left: found by their names, and dropped when asked.
 function leftCopies(cluster) {
+    const dropping = (name) => button("Drop it", async (event) => {
+        const line = event.currentTarget.closest("li"), reply = await drop(name);
+        line.replaceChildren(
+            reply.status === 200 || reply.status === 404
+                ? `${name} is dropped.`
+                : meaning(reply.status, reply.error, true)
+        );
+    });
     const found = el("div", { "aria-live": "polite" });
     const look = button("Look for copies", async () => {
         const names = await working("Looking for copies", (work) => copiesOf(cluster.tenant, work.signal));
-        found.replaceChildren(names.length ? el("ul", { class: "tenants" }, names.map((it) => el("li", {}, el("code", {}, it), " ", button("Drop it", async (event) => {
-            const line = event.currentTarget.closest("li"), reply = await drop(it);
-            line.replaceChildren(
-                reply.status === 200 || reply.status === 404
-                    ? `${it} is dropped.`
-                    : meaning(reply.status, reply.error, true)
-            );
-        })))) : el("p", {}, "There is none."));
+        const lines = names.map((it) => el("li", {}, el("code", {}, it), " ", dropping(it)));
+        found.replaceChildren(
+            names.length ? el("ul", { class: "tenants" }, lines) : el("p", {}, "There is none.")
+        );
     }, { id: "look" });
     return el(
         "details", { class: "hint", id: "copies" }, el("summary", {}, "Copies that a closed browser left"),

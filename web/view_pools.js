@@ -152,10 +152,10 @@ function list(cluster, refresh) {
     const heads = ["id", "name", "kind", "size", "min_size", "rule", "pg_num", "pgp_num", "hashpspool"];
     const others = cluster.summary.pools !== pools.filter((it) => !cluster.known.sides[it.id]).length && el(
         "p", { class: "note" },
-        `The service keeps ${many(cluster.summary.pools, "pool")} of this cluster, and this browser knows ` + `${pools.length}: `
-            + `the others were made elsewhere, and no request lists them. Drop osd.json or the file that `
-            + `the other browser saves; or fill in the form as such a pool was made, then you can say that `
-            + `it is there.`
+        `The service keeps ${many(cluster.summary.pools, "pool")} of this cluster, and this browser knows `
+            + `${pools.length}: the others were made elsewhere, and no request lists them. Drop osd.json or `
+            + `the file that the other browser saves; or fill in the form as such a pool was made, then you `
+            + `can say that it is there.`
     );
     const head = [...heads, "exceptions", ""].map(
         (it) => el(

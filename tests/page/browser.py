@@ -17,7 +17,9 @@ SECONDS, POLL = int(os.environ.get("PAGE_SECONDS", 60)), float(os.environ.get("P
 RECORDER = """
 window.longTasks = [];
 window.ownScripts = [];
-new PerformanceObserver((list) => list.getEntries().forEach((it) => window.longTasks.push([it.startTime, it.duration]))).observe({ type: "longtask", buffered: true });
+new PerformanceObserver((list) => {
+    for (const it of list.getEntries()) window.longTasks.push([it.startTime, it.duration]);
+}).observe({ type: "longtask", buffered: true });
 window.clicks = 0;
 document.addEventListener("pointerdown", (event) => { if (event.isTrusted) window.clicks += 1; }, true);
 """
@@ -25,7 +27,8 @@ DROP = """
 const [files] = arguments, carried = new DataTransfer();
 for (const [text, name] of files) carried.items.add(new File([text], name));
 for (const kind of ["dragover", "drop"]) {
-    document.querySelector("main").dispatchEvent(new DragEvent(kind, { dataTransfer: carried, bubbles: true, cancelable: true }));
+    const event = new DragEvent(kind, { dataTransfer: carried, bubbles: true, cancelable: true });
+    document.querySelector("main").dispatchEvent(event);
 }
 """
 
@@ -44,7 +47,9 @@ class Browser:
 
     def one(self, selector, seconds=SECONDS):
         """The element, once it is there and shown."""
-        return self.until(lambda: next((it for it in self.all(selector) if it.is_displayed()), None), f"no {selector}", seconds)
+        return self.until(
+            lambda: next((it for it in self.all(selector) if it.is_displayed()), None), f"no {selector}", seconds
+        )
 
     def until(self, holds, why, seconds=SECONDS):
         # an element may be replaced while it is looked at
@@ -64,7 +69,10 @@ class Browser:
 
     def named(self, kind, words):
         """The element of this kind whose text has the words."""
-        return self.until(lambda: next((it for it in self.all(kind) if words in it.text and it.is_displayed()), None), f"no {kind} with {words!r}")
+        return self.until(
+            lambda: next((it for it in self.all(kind) if words in it.text and it.is_displayed()), None),
+            f"no {kind} with {words!r}",
+        )
 
     def fill(self, selector, words):
         it = self.one(selector)
@@ -82,7 +90,10 @@ class Browser:
 
     def run(self, script, *words):
         """What a script returns; the page's tasks are told from it by the time that it took."""
-        own = "const began = performance.now(); try { return (function () { %s }).apply(null, arguments); } finally { window.ownScripts?.push([began, performance.now()]); }"
+        own = (
+            "const began = performance.now(); try { return (function () { %s }).apply(null, arguments); } finally {"
+            " window.ownScripts?.push([began, performance.now()]); }"
+        )
         return self.driver.execute_script(own % script, *words)
 
     def processor_ms(self):
@@ -92,13 +103,22 @@ class Browser:
 
     def has(self, selector, count=1, seconds=SECONDS):
         """Waits for so many elements, with little work for the page."""
-        self.until(lambda: self.run("return document.querySelectorAll(arguments[0]).length", selector) >= count, f"no {selector}", seconds)
+        self.until(
+            lambda: self.run("return document.querySelectorAll(arguments[0]).length", selector) >= count,
+            f"no {selector}",
+            seconds,
+        )
 
     def size(self, width, height=900):
-        self.driver.execute_cdp_cmd("Emulation.setDeviceMetricsOverride", {"width": width, "height": height, "deviceScaleFactor": 1, "mobile": width < 600})
+        self.driver.execute_cdp_cmd(
+            "Emulation.setDeviceMetricsOverride",
+            {"width": width, "height": height, "deviceScaleFactor": 1, "mobile": width < 600},
+        )
 
     def colours(self, scheme):
-        self.driver.execute_cdp_cmd("Emulation.setEmulatedMedia", {"features": [{"name": "prefers-color-scheme", "value": scheme}]})
+        self.driver.execute_cdp_cmd(
+            "Emulation.setEmulatedMedia", {"features": [{"name": "prefers-color-scheme", "value": scheme}]}
+        )
 
     def picture(self, path):
         path.parent.mkdir(parents=True, exist_ok=True)
@@ -111,14 +131,26 @@ class Browser:
 
     def errors(self):
         """What the console says since the last look, but for replies that aren't 2xx."""
-        return [it["message"] for it in self.driver.get_log("browser") if "Failed to load resource" not in it["message"]]
+        return [
+            it["message"] for it in self.driver.get_log("browser") if "Failed to load resource" not in it["message"]
+        ]
 
 
 @contextlib.contextmanager
 def browser(downloads, *more):
     options = Options()
     options.binary_location = "/usr/bin/chromium"
-    for it in ("--headless=new", "--no-sandbox", "--disable-gpu", "--disable-dev-shm-usage", "--renderer-process-limit=1", "--no-first-run", "--disable-background-networking", "--lang=en", *more):
+    for it in (
+        "--headless=new",
+        "--no-sandbox",
+        "--disable-gpu",
+        "--disable-dev-shm-usage",
+        "--renderer-process-limit=1",
+        "--no-first-run",
+        "--disable-background-networking",
+        "--lang=en",
+        *more,
+    ):
         options.add_argument(it)
     options.add_experimental_option("prefs", {"download.default_directory": str(downloads)})
     options.set_capability("goog:loggingPrefs", {"performance": "ALL", "browser": "ALL"})

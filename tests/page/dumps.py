@@ -20,9 +20,24 @@ FIXED = {3: 32768, 9: 58982}
 def placed(cluster, number, **more):
     """A pool of the dump, by the independent calculator."""
     _, size, _, rule, groups = POOLS[number - 1]
-    pairs = [(int(pgid.split(".")[1], 16), old, new) for pgid, own in UPMAPS if pgid.startswith(f"{number}.") for old, new in own]
+    pairs = [
+        (int(pgid.split(".")[1], 16), old, new)
+        for pgid, own in UPMAPS
+        if pgid.startswith(f"{number}.")
+        for old, new in own
+    ]
     reweights = {**FIXED, **more.pop("reweights", {})}
-    return Placed(cluster.text(), pool=number, size=size, pg_num=groups, rule=rule, reweights=reweights, down={14, *more.pop("down", ())}, pairs=pairs, **more)
+    return Placed(
+        cluster.text(),
+        pool=number,
+        size=size,
+        pg_num=groups,
+        rule=rule,
+        reweights=reweights,
+        down={14, *more.pop("down", ())},
+        pairs=pairs,
+        **more,
+    )
 
 
 def dropped(page, cluster, **more):
@@ -39,13 +54,25 @@ def both_files_make_the_cluster(page):
     tenant = dropped(page, SMALL)
     said, text = page.browser.text("#said"), page.ask("GET", f"/t/{tenant}/maps/1")[1]["text"]
     wanted = map_text.write(map_text.read(SMALL.text().encode())).decode()
-    rows = lambda number: {it["device"]: it["entries"] for it in page.ask("GET", f"/t/{tenant}/pools/{number}/usage")[1]["rows"]}
-    pairs = [(it["group"], it["from"], it["to"]) for it in page.ask("GET", f"/t/{tenant}/pools/1/exceptions")[1]["exceptions"]]
+    rows = lambda number: {
+        it["device"]: it["entries"] for it in page.ask("GET", f"/t/{tenant}/pools/{number}/usage")[1]["rows"]
+    }
+    pairs = [
+        (it["group"], it["from"], it["to"])
+        for it in page.ask("GET", f"/t/{tenant}/pools/1/exceptions")[1]["exceptions"]
+    ]
     known = json.loads(page.browser.run("return localStorage.getItem(`crushcalc.tenant.${arguments[0]}`)", tenant))
     return first(
-        None if "2 pools, 3 devices with a reweight or down, 4 upmap items" in said else said, unlike(sorted(text.splitlines()), sorted(wanted.splitlines())), unlike(pairs, [(5, 0, 1), (43, 4, 5), (43, 8, 9)]),
-        *(unlike(rows(number), {it: row[0] for it, row in placed(SMALL, number).usage().items()}, f"pool {number}") for number in (1, 2)),
-        unlike([it["min_size"] for it in known["pools"]], [2, 1]), unlike(page.summary(tenant)["epoch"], known["seen"], "what the browser knows:"), unlike(len(page.browser.all("#unknown")), 0, "notes:"),
+        None if "2 pools, 3 devices with a reweight or down, 4 upmap items" in said else said,
+        unlike(sorted(text.splitlines()), sorted(wanted.splitlines())),
+        unlike(pairs, [(5, 0, 1), (43, 4, 5), (43, 8, 9)]),
+        *(
+            unlike(rows(number), {it: row[0] for it, row in placed(SMALL, number).usage().items()}, f"pool {number}")
+            for number in (1, 2)
+        ),
+        unlike([it["min_size"] for it in known["pools"]], [2, 1]),
+        unlike(page.summary(tenant)["epoch"], known["seen"], "what the browser knows:"),
+        unlike(len(page.browser.all("#unknown")), 0, "notes:"),
     )
 
 
@@ -60,7 +87,14 @@ def the_answer_for_a_host_in_two_clicks(page):
     clicks, out = page.clicks(), {it: 0 for it in range(16, 20)}
     changes = [Change(placed(SMALL, it), placed(SMALL, it, reweights=out), POOLS[it - 1][1]) for it in (1, 2)]
     parts = parts_of(SMALL.text(), {**FIXED, **out}, {14})
-    return first(unlike(clicks, 2, "clicks:"), unlike(page.browser.text(".title"), "Drain of host4"), unlike({key: it for key, it in page.figures().items() if key != "fullest"}, {key: it for key, it in wanted_figures(changes, parts).items() if key != "fullest"}))
+    return first(
+        unlike(clicks, 2, "clicks:"),
+        unlike(page.browser.text(".title"), "Drain of host4"),
+        unlike(
+            {key: it for key, it in page.figures().items() if key != "fullest"},
+            {key: it for key, it in wanted_figures(changes, parts).items() if key != "fullest"},
+        ),
+    )
 
 
 def click_in_picture(page, name):
@@ -71,14 +105,18 @@ def click_in_picture(page, name):
     width, height = canvas.size["width"], canvas.size["height"]
     script = """const [canvas, name] = arguments, at = canvas.getBoundingClientRect();
         for (let y = 2; y < at.height; y += 8) for (let x = 2; x < at.width; x += 6) {
-            canvas.dispatchEvent(new PointerEvent("pointermove", { clientX: at.left + x, clientY: at.top + y, bubbles: true }));
-            if (document.querySelector("#picture .said").textContent.split(/[ :]/).includes(name) && document.querySelector("#picture .said").textContent.startsWith("host")) return [x, y];
+            const place = { clientX: at.left + x, clientY: at.top + y, bubbles: true };
+            canvas.dispatchEvent(new PointerEvent("pointermove", place));
+            const said = document.querySelector("#picture .said").textContent;
+            if (said.startsWith("host") && said.split(/[ :]/).includes(name)) return [x, y];
         }
         return null;"""
     found = page.browser.run(script, canvas, name)
     if not found:
         raise ValueError(f"{name} isn't in the picture")
-    ActionChains(page.browser.driver).move_to_element_with_offset(canvas, found[0] - width / 2, found[1] - height / 2).click().perform()
+    ActionChains(page.browser.driver).move_to_element_with_offset(
+        canvas, found[0] - width / 2, found[1] - height / 2
+    ).click().perform()
     page.browser.until(lambda: page.browser.text("#picture .way strong") == name, f"{name} isn't looked into")
 
 
@@ -94,7 +132,12 @@ def a_picture_is_looked_into_by_keys(page):
     page.browser.named("#picture .way button", "default").click()
     whole = page.browser.text("#picture .said")
     every = sum(it[0] for of in before for it in of.usage().values())
-    return first(None if said.startswith(f"rack rack1: {copies} copies, ") else said, None if whole == f"root default: {every} copies, 100.0 % of its share" else whole, unlike(focus, "into"), unlike(round(float(sum(parts.values())), 9), 1.0))
+    return first(
+        None if said.startswith(f"rack rack1: {copies} copies, ") else said,
+        None if whole == f"root default: {every} copies, 100.0 % of its share" else whole,
+        unlike(focus, "into"),
+        unlike(round(float(sum(parts.values())), 9), 1.0),
+    )
 
 
 def what_is_not_computed_is_named(page):
@@ -107,7 +150,11 @@ def what_is_not_computed_is_named(page):
     page.browser.drop(SMALL.crush(), "crush.json", (json.dumps(osd), "osd.json"))
     page.browser.until(lambda: "The cluster is there" in page.browser.text("#said"), "the dumps aren't taken")
     pools, said = page.summary(tenant)["pools"], page.browser.text("#not-computed")
-    wanted = ("pool meta (2) isn't computed: crush.json lacks its rule 7", "pool photos is being split or merged (pg_num 64 on its way to 128", "1.8")
+    wanted = (
+        "pool meta (2) isn't computed: crush.json lacks its rule 7",
+        "pool photos is being split or merged (pg_num 64 on its way to 128",
+        "1.8",
+    )
     # a drain of a host
     lies = lambda **more: Placed(SMALL.text(), pool=1, size=3, pg_num=64, **more)
     before = lies()
@@ -118,8 +165,10 @@ def what_is_not_computed_is_named(page):
     page.browser.click("#which summary")
     page.browser.has("#groups tbody tr")
     return first(
-        *(None if it in said else f"{it!r} isn't in {said!r}" for it in wanted), unlike(pools, 1),
-        unlike(verdict, f"Unknown: pool meta can't be computed; of what can, {len(moves)} groups move."), unlike(sorted(page.rows("#groups tbody tr")), [it for it, _, _ in moves], "groups:"),
+        *(None if it in said else f"{it!r} isn't in {said!r}" for it in wanted),
+        unlike(pools, 1),
+        unlike(verdict, f"Unknown: pool meta can't be computed; of what can, {len(moves)} groups move."),
+        unlike(sorted(page.rows("#groups tbody tr")), [it for it, _, _ in moves], "groups:"),
         None if "pool meta (2) isn't computed" in lacks else lacks,
     )
 
@@ -130,8 +179,11 @@ def files_that_are_no_dumps(page):
     broken = json.loads(SMALL.crush())
     del broken["buckets"][2]["items"][1]["weight"]
     for files, words in (
-        ([("{", "crush.json")], "crush.json is none of what"), ([("[]", "osd.json")], "osd.json"), ([(json.dumps(broken), "crush.json")], "crush.json: buckets[2]: items[1] has no field 'weight'"),
-        ([(SMALL.osd(POOLS), "osd.json")], "Drop the map too"), ([(SMALL.crush(), "a.json"), (SMALL.crush(), "b.json")], "of one kind"),
+        ([("{", "crush.json")], "crush.json is none of what"),
+        ([("[]", "osd.json")], "osd.json"),
+        ([(json.dumps(broken), "crush.json")], "crush.json: buckets[2]: items[1] has no field 'weight'"),
+        ([(SMALL.osd(POOLS), "osd.json")], "Drop the map too"),
+        ([(SMALL.crush(), "a.json"), (SMALL.crush(), "b.json")], "of one kind"),
     ):
         page.browser.drop(*files[0], *files[1:])
         page.browser.until(lambda: words in page.browser.text("#said .fault"), f"{words!r} isn't said")
@@ -146,9 +198,16 @@ def a_map_text_and_osd_json(page):
     rows = lambda: {it["device"]: it["entries"] for it in page.ask("GET", f"/t/{tenant}/pools/1/usage")[1]["rows"]}
     found, note = rows(), page.browser.text("#not-computed")
     page.browser.drop(SMALL.osd(POOLS, {}, ()), "osd.json")
-    page.browser.until(lambda: "0 devices with a reweight or down, 0 upmap items" in page.browser.text("#said"), "osd.json isn't taken alone")
+    page.browser.until(
+        lambda: "0 devices with a reweight or down, 0 upmap items" in page.browser.text("#said"),
+        "osd.json isn't taken alone",
+    )
     plain = Placed(SMALL.text(), pool=1, size=3, pg_num=64).usage()
-    return first(unlike(found, {it: row[0] for it, row in placed(SMALL, 1).usage().items()}), unlike(rows(), {it: row[0] for it, row in plain.items()}), None if "map.txt has weights that 'crushtool -d' rounded" in note else note)
+    return first(
+        unlike(found, {it: row[0] for it, row in placed(SMALL, 1).usage().items()}),
+        unlike(rows(), {it: row[0] for it, row in plain.items()}),
+        None if "map.txt has weights that 'crushtool -d' rounded" in note else note,
+    )
 
 
 def what_another_browser_knows(page):
@@ -167,11 +226,25 @@ def what_another_browser_knows(page):
     usages = [placed(SMALL, it).usage() for it in (1, 2)]
     parts = {number: parts_of(SMALL.text(), FIXED, {14}) for number in (1, 2)}
     copies = {it: sum(of[it][0] for of in usages) for it in range(24)}
-    expected = {it: sum(parts[number][it] * sum(row[0] for row in usages[number - 1].values()) for number in (1, 2)) for it in range(24)}
+    expected = {
+        it: sum(parts[number][it] * sum(row[0] for row in usages[number - 1].values()) for number in (1, 2))
+        for it in range(24)
+    }
     found = {it: row[2:4] for it, row in page.rows("#places tr[data-device]").items()}
-    return first(None if "this browser knows 0 pools" in note else note, unlike(gone, 0, "the note is left:"), unlike(found, {it: [str(copies[it]), rounded(expected[it], 2)] for it in range(24)}))
+    return first(
+        None if "this browser knows 0 pools" in note else note,
+        unlike(gone, 0, "the note is left:"),
+        unlike(found, {it: [str(copies[it]), rounded(expected[it], 2)] for it in range(24)}),
+    )
 
 
 def cases():
-    return both_files_make_the_cluster, the_answer_for_a_host_in_two_clicks, a_picture_is_looked_into_by_keys, what_is_not_computed_is_named, files_that_are_no_dumps, a_map_text_and_osd_json, what_another_browser_knows
-
+    return (
+        both_files_make_the_cluster,
+        the_answer_for_a_host_in_two_clicks,
+        a_picture_is_looked_into_by_keys,
+        what_is_not_computed_is_named,
+        files_that_are_no_dumps,
+        a_map_text_and_osd_json,
+        what_another_browser_knows,
+    )

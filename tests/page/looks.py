@@ -15,7 +15,8 @@ TEXTS = """
 const found = new Map();
 for (const it of document.querySelectorAll("body *")) {
     const own = [...it.childNodes].some((at) => at.nodeType === 3 && at.data.trim());
-    if (!own || it.disabled || !it.checkVisibility({ opacityProperty: true, visibilityProperty: true }) || it.closest(".skip, noscript, option")) continue;
+    if (!own || it.disabled || it.closest(".skip, noscript, option")) continue;
+    if (!it.checkVisibility({ opacityProperty: true, visibilityProperty: true })) continue;
     const below = [];
     for (let at = it; at; at = at.parentElement) below.push(getComputedStyle(at).backgroundColor);
     found.set(getComputedStyle(it).color + below, [it.tagName + "." + it.className, getComputedStyle(it).color, below]);
@@ -27,9 +28,12 @@ return [...found.values()];
 # words of up to twelve letters that are broken over lines, of what is seen
 BROKEN = """
 const clipped = (it) => it && (getComputedStyle(it).clipPath !== "none" || clipped(it.parentElement));
-const found = new Set(), walker = document.createTreeWalker(document.body, NodeFilter.SHOW_TEXT), range = document.createRange();
+const walker = document.createTreeWalker(document.body, NodeFilter.SHOW_TEXT);
+const found = new Set(), range = document.createRange();
 for (let it = walker.nextNode(); it; it = walker.nextNode()) {
-    if (!it.parentElement.checkVisibility({ visibilityProperty: true }) || it.parentElement.closest("script, .skip, noscript, option, pre, code") || clipped(it.parentElement)) continue;
+    const above = it.parentElement;
+    if (!above.checkVisibility({ visibilityProperty: true }) || clipped(above)) continue;
+    if (above.closest("script, .skip, noscript, option, pre, code")) continue;
     for (const word of it.data.matchAll(/(?<![^\\s-])[^\\s-]{2,12}(?![^\\s-])/g)) {
         range.setStart(it, word.index);
         range.setEnd(it, word.index + word[0].length);
@@ -94,11 +98,17 @@ def one_group_is_chosen_on_a_phone(page):
     page.browser.fill("#group-search", f"1.{group:x}")
     page.browser.until(lambda: list(page.rows("#groups tbody tr")) == [group], "not one group is shown")
     page.browser.run("document.querySelector('#groups tbody tr').scrollIntoView({ block: 'center' })")
-    sides = page.browser.run("return [...document.querySelectorAll('#groups tbody tr > *')].flatMap((it) => [it.getBoundingClientRect().left, it.getBoundingClientRect().right])")
+    sides = page.browser.run(
+        "return [...document.querySelectorAll('#groups tbody tr > *')].flatMap((it) =>"
+        " [it.getBoundingClientRect().left, it.getBoundingClientRect().right])"
+    )
     lines = page.browser.run("return Math.round(document.querySelector('#groups tbody .id').getClientRects().length)")
     page.browser.picture(PICTURES / "one-group-360.png")
     page.browser.size(1280)
-    return first(None if min(sides) >= 0 and max(sides) <= 360 else f"it lies from {min(sides)} to {max(sides)}", unlike(lines, 1, "lines of its id:"))
+    return first(
+        None if min(sides) >= 0 and max(sides) <= 360 else f"it lies from {min(sides)} to {max(sides)}",
+        unlike(lines, 1, "lines of its id:"),
+    )
 
 
 def the_longest_names_fit(page):
@@ -144,7 +154,11 @@ def contrast(text, below):
 
 def faint(page, what):
     """The texts that are shown with too little contrast."""
-    return [f"{what}, {it}: {text} on {below} has {contrast(text, below):.2f}" for it, text, below in page.browser.run(TEXTS) if contrast(text, below) < CONTRAST]
+    return [
+        f"{what}, {it}: {text} on {below} has {contrast(text, below):.2f}"
+        for it, text, below in page.browser.run(TEXTS)
+        if contrast(text, below) < CONTRAST
+    ]
 
 
 def the_first_view_a_refused_map_and_a_question(page):
@@ -158,7 +172,10 @@ def the_first_view_a_refused_map_and_a_question(page):
             page.browser.colours(scheme)
             over = page.browser.run("return document.scrollingElement.scrollWidth") - width
             page.browser.picture(PICTURES / f"{what}-{width}-{scheme}.png")
-            whys.extend(faint(page, f"{what} in {scheme}") + ([f"{what} is {over} pixels wider than {width}"] if over > 0 else []))
+            whys.extend(
+                faint(page, f"{what} in {scheme}")
+                + ([f"{what} is {over} pixels wider than {width}"] if over > 0 else [])
+            )
         page.browser.size(1280)
         page.browser.colours("light")
 
@@ -171,8 +188,13 @@ def the_first_view_a_refused_map_and_a_question(page):
     focus = page.browser.run("return document.activeElement.textContent")
     looked_at("question")
     press(page, Keys.ESCAPE)
-    page.browser.until(lambda: not page.browser.run("return document.querySelector('dialog').open"), "Escape doesn't leave the question")
-    return first(*whys, unlike(focus, "Keep it", "the question begins at"), unlike(page.ask("GET", f"/t/{tenant}")[0], 200))
+    page.browser.until(
+        lambda: not page.browser.run("return document.querySelector('dialog').open"),
+        "Escape doesn't leave the question",
+    )
+    return first(
+        *whys, unlike(focus, "Keep it", "the question begins at"), unlike(page.ask("GET", f"/t/{tenant}")[0], 200)
+    )
 
 
 def it_is_read_well_in_light_and_dark(page):
@@ -186,7 +208,14 @@ def it_is_read_well_in_light_and_dark(page):
             page.browser.picture(PICTURES / f"{view.lower()}-{scheme}.png")
             whys += faint(page, f"{view} in {scheme}")
     page.browser.colours("light")
-    return first(*whys, None if bright(colour_of(grounds[0])[0]) > 0.7 and bright(colour_of(grounds[1])[0]) < 0.1 else f"the grounds are {grounds}")
+    return first(
+        *whys,
+        (
+            None
+            if bright(colour_of(grounds[0])[0]) > 0.7 and bright(colour_of(grounds[1])[0]) < 0.1
+            else f"the grounds are {grounds}"
+        ),
+    )
 
 
 def press(page, *keys):
@@ -199,7 +228,10 @@ def tab_to(page, holds):
         press(page, Keys.TAB)
         at = page.browser.driver.switch_to.active_element
         if holds(at):
-            seen = page.browser.run("const it = document.activeElement, ring = it.closest('.choose')?.querySelector('label') ?? it; return getComputedStyle(ring).outlineStyle")
+            seen = page.browser.run(
+                "const it = document.activeElement, ring = it.closest('.choose')?.querySelector('label') ?? it; return"
+                " getComputedStyle(ring).outlineStyle"
+            )
             if seen == "none":
                 raise ValueError(f"the focus isn't seen on {at.tag_name}")
             return at
@@ -228,7 +260,9 @@ def a_drain_by_keyboard_alone(page):
     tab_to(page, lambda it: it.get_attribute("type") == "file")
     page.browser.drop(example("three_hosts.txt"), "three_hosts.txt")
     page.browser.one("#tree [data-bucket]")
-    page.browser.until(lambda: page.browser.run("return document.activeElement.id") == "said", "what came of the import has the focus")
+    page.browser.until(
+        lambda: page.browser.run("return document.activeElement.id") == "said", "what came of the import has the focus"
+    )
     tab_to(page, lambda it: it.text == "Make a pool")
     press(page, Keys.ENTER)
     page.browser.one("#pool-name")
@@ -249,7 +283,10 @@ def a_drain_by_keyboard_alone(page):
     press(page, Keys.ENTER)
     page.browser.has("#groups tbody tr")
     return first(
-        unlike(chosen, "Drain of host0"), unlike(page.clicks(), 0, "clicks:"), unlike(page.summary(tenant)["epoch"], 2), None if after_pool <= 2 else f"{after_pool} tabs from the pool to its drain",
+        unlike(chosen, "Drain of host0"),
+        unlike(page.clicks(), 0, "clicks:"),
+        unlike(page.summary(tenant)["epoch"], 2),
+        None if after_pool <= 2 else f"{after_pool} tabs from the pool to its drain",
         None if to_list <= 6 else f"{to_list} tabs to a host",
     )
 
@@ -270,7 +307,12 @@ def the_list_of_hosts_is_skipped(page):
     press(page, Keys.SPACE, Keys.ENTER)
     page.browser.one("#answer")
     page.browser.has(DRAINED)
-    return first(None if to_skip <= 4 else f"{to_skip} tabs to what skips the list", unlike(skipped, "drain", "the focus is on"), unlike(early, 0, "a search drains:"), unlike(page.browser.text(".title"), "Drain of host2"))
+    return first(
+        None if to_skip <= 4 else f"{to_skip} tabs to what skips the list",
+        unlike(skipped, "drain", "the focus is on"),
+        unlike(early, 0, "a search drains:"),
+        unlike(page.browser.text(".title"), "Drain of host2"),
+    )
 
 
 def the_content_is_skipped_to(page):
@@ -280,7 +322,10 @@ def the_content_is_skipped_to(page):
     page.browser.driver.refresh()
     page.browser.one("#places tbody tr")
     press(page, Keys.TAB, Keys.ENTER)
-    return first(unlike(page.browser.run("return document.activeElement.id"), "main", "the focus is on"), unlike(page.browser.text("h1"), "Usage"))
+    return first(
+        unlike(page.browser.run("return document.activeElement.id"), "main", "the focus is on"),
+        unlike(page.browser.text("h1"), "Usage"),
+    )
 
 
 # what a checker of accessibility asks of the page's elements: of each that is shown what is wrong
@@ -292,14 +337,19 @@ for (const it of document.querySelectorAll("[id]")) {
     seen.add(it.id);
 }
 for (const name of ["aria-labelledby", "aria-describedby", "for"]) {
-    for (const it of document.querySelectorAll(`[${name}]`)) for (const id of it.getAttribute(name).split(" ")) if (!document.getElementById(id)) wrong.push(`${name} of ${text(it)} names nothing`);
+    for (const it of document.querySelectorAll(`[${name}]`)) for (const id of it.getAttribute(name).split(" ")) {
+        if (!document.getElementById(id)) wrong.push(`${name} of ${text(it)} names nothing`);
+    }
 }
-for (const it of document.querySelectorAll("[tabindex]")) if (Number(it.getAttribute("tabindex")) > 0) wrong.push(`${text(it)} has its own place among the tabs`);
-for (const it of document.querySelectorAll("svg, .key")) if (!it.closest("[aria-hidden='true']")) wrong.push(`${text(it)} is read`);
-for (const it of document.querySelectorAll("img, canvas")) if (it.getAttribute("alt") === null && !it.getAttribute("aria-label")) wrong.push(`${text(it)} has no words`);
-for (const it of document.querySelectorAll("button, a")) if (it.querySelector("button, a, input, select")) wrong.push(`${text(it)} has another control in it`);
-for (const it of document.querySelectorAll("ul, ol")) for (const child of it.children) if (child.tagName !== "LI") wrong.push(`${text(child)} is in a list`);
-for (const it of document.querySelectorAll("dl > div")) if (!it.querySelector("dt") || !it.querySelector("dd")) wrong.push(`${text(it)} is no pair`);
+const all = (selector, isWrong, why) => {
+    for (const it of document.querySelectorAll(selector)) if (isWrong(it)) wrong.push(`${text(it)} ${why}`);
+};
+all("[tabindex]", (it) => Number(it.getAttribute("tabindex")) > 0, "has its own place among the tabs");
+all("svg, .key", (it) => !it.closest("[aria-hidden='true']"), "is read");
+all("img, canvas", (it) => it.getAttribute("alt") === null && !it.getAttribute("aria-label"), "has no words");
+all("button, a", (it) => it.querySelector("button, a, input, select"), "has another control in it");
+all("ul > *, ol > *", (it) => it.tagName !== "LI", "is in a list");
+all("dl > div", (it) => !it.querySelector("dt") || !it.querySelector("dd"), "is no pair");
 let level = 0;
 for (const it of document.querySelectorAll("h1, h2, h3, h4")) {
     if (!shows(it)) continue;
@@ -307,7 +357,7 @@ for (const it of document.querySelectorAll("h1, h2, h3, h4")) {
     if (own > level + 1) wrong.push(`${text(it)} follows a heading of level ${level}`);
     level = own;
 }
-for (const it of document.querySelectorAll("table")) if (!it.querySelector("th[scope]")) wrong.push(`${text(it)} has no heads`);
+all("table", (it) => !it.querySelector("th[scope]"), "has no heads");
 return wrong;
 """
 
@@ -318,20 +368,56 @@ def a_screen_reader_has_names_for_all(page):
         filled(page, view)
         if wrong := page.browser.run(CHECKED):
             return f"{view}: {wrong[:3]}"
-        for kind in ("a", "button", "input", "select", "summary", "textarea", "table", "canvas", "fieldset", "form", "dialog[open]"):
+        for kind in (
+            "a",
+            "button",
+            "input",
+            "select",
+            "summary",
+            "textarea",
+            "table",
+            "canvas",
+            "fieldset",
+            "form",
+            "dialog[open]",
+        ):
             for it in page.browser.all(kind):
-                if it.is_displayed() and not (it.accessible_name or "").strip() and not page.browser.run("return arguments[0].caption?.textContent", it):
+                if (
+                    it.is_displayed()
+                    and not (it.accessible_name or "").strip()
+                    and not page.browser.run("return arguments[0].caption?.textContent", it)
+                ):
                     return f"{view}: {kind} {it.get_attribute('outerHTML')[:120]} has no name"
         heads = page.browser.run("return [...document.querySelectorAll('h1')].length")
         current = page.browser.run("return document.querySelectorAll('nav [aria-current=page]').length")
-        hidden = page.browser.run("return [...document.querySelectorAll('svg')].filter((it) => it.getAttribute('aria-hidden') !== 'true').length")
-        if why := first(unlike(heads, 1, f"{view}: headings h1"), unlike(current, 1, f"{view}: current views"), unlike(hidden, 0, f"{view}: pictures that are read")):
+        hidden = page.browser.run(
+            "return [...document.querySelectorAll('svg')].filter((it) => it.getAttribute('aria-hidden') !=="
+            " 'true').length"
+        )
+        if why := first(
+            unlike(heads, 1, f"{view}: headings h1"),
+            unlike(current, 1, f"{view}: current views"),
+            unlike(hidden, 0, f"{view}: pictures that are read"),
+        ):
             return why
         if page.browser.run("return document.activeElement.tagName") == "BODY":
             return f"{view}: the focus is on {page.browser.run('return document.activeElement.outerHTML')[:100]}"
-    roles = page.browser.run("return ['main', 'nav[aria-label]', 'header', '[role=status]', '[role=alert]'].filter((it) => !document.querySelector(it))")
+    roles = page.browser.run(
+        "return ['main', 'nav[aria-label]', 'header', '[role=status]', '[role=alert]'].filter((it) =>"
+        " !document.querySelector(it))"
+    )
     return first(unlike(roles, []), unlike(page.browser.run("return document.documentElement.lang"), "en"))
 
 
 def cases():
-    return it_fits_both_widths, one_group_is_chosen_on_a_phone, the_first_view_a_refused_map_and_a_question, the_longest_names_fit, it_is_read_well_in_light_and_dark, a_drain_by_keyboard_alone, the_list_of_hosts_is_skipped, the_content_is_skipped_to, a_screen_reader_has_names_for_all
+    return (
+        it_fits_both_widths,
+        one_group_is_chosen_on_a_phone,
+        the_first_view_a_refused_map_and_a_question,
+        the_longest_names_fit,
+        it_is_read_well_in_light_and_dark,
+        a_drain_by_keyboard_alone,
+        the_list_of_hosts_is_skipped,
+        the_content_is_skipped_to,
+        a_screen_reader_has_names_for_all,
+    )

@@ -46,7 +46,9 @@ def a_changed_text_has_classes_and_weight_sets(page, folder):
     files_of(folder, program, today.crush(sets), today.osd(POOLS, STATES))
     (folder / "new.txt").write_text(today.text({"-1": today.weight_set(""), "2": today.weight_set("ssd")}))
     dropped(page, folder)
-    return said_of(page, program, folder, "new.txt", ["new.txt has weights with three decimals, and the newest version exact ones"])
+    return said_of(
+        page, program, folder, "new.txt", ["new.txt has weights with three decimals, and the newest version exact ones"]
+    )
 
 
 @with_folder
@@ -75,14 +77,26 @@ def devices_change_their_host_and_weight(page, folder):
     (folder / "new.json").write_text(json.dumps(weighed(other)))
     dropped(page, folder)
     said = plan(program, folder, "compare", folder / "new.json")
-    return first(None if said["past_backfillfull"] and 6 not in said["past_nearfull"] else f"{said['past_nearfull']} {said['past_backfillfull']}", same_compare(page, program, folder, "new.json"))
+    return first(
+        (
+            None
+            if said["past_backfillfull"] and 6 not in said["past_nearfull"]
+            else f"{said['past_nearfull']} {said['past_backfillfull']}"
+        ),
+        same_compare(page, program, folder, "new.json"),
+    )
 
 
 @with_folder
 def list_buckets_become_straw2(page, folder):
     program, plain = page.program, Cluster(2, 3, 4, "list", 3)
     pools = [("photos", 3, 2, 0, 64), ("wide", 2, 1, 1, 32)]
-    files_of(folder, program, json.loads(plain.crush()), {"backfillfull_ratio": 0.9, **json.loads(plain.osd(pools, STATES, [("1.3", [])]))})
+    files_of(
+        folder,
+        program,
+        json.loads(plain.crush()),
+        {"backfillfull_ratio": 0.9, **json.loads(plain.osd(pools, STATES, [("1.3", [])]))},
+    )
     (folder / "new.json").write_text(Cluster(2, 3, 4, "straw2", 3).crush())
     dropped(page, folder)
     return same_compare(page, program, folder, "new.json")
@@ -104,7 +118,11 @@ def a_map_that_lacks_a_host_and_a_rule(page, folder):
     found = same_compare(page, program, folder, "new.json")
     page.browser.click("#usages-level option[value='host']")
     hosts = [it.text for it in page.browser.all("#usages tbody tr th .open")]
-    return first(found, None if "new.json lacks its rule 3" in page.browser.text("#left-out") else page.browser.text("#left-out"), None if "host2" in hosts else str(hosts))
+    return first(
+        found,
+        None if "new.json lacks its rule 3" in page.browser.text("#left-out") else page.browser.text("#left-out"),
+        None if "host2" in hosts else str(hosts),
+    )
 
 
 @with_folder
@@ -117,8 +135,10 @@ def a_text_stands_in_the_place_of_the_dump(page, folder):
     dropped(page, folder, ("map.txt", "osd.json", "df.json", "osd-df.json", "pgs.json"))
     said, note = page.browser.text("#said"), page.browser.text("#not-computed")
     return first(
-        None if "192 of 192 groups lie as computed" in said else said, None if "map.txt has weights that 'crushtool -d' rounded" in note else note,
-        same_usage(page, program, folder), same_drain(page, program, folder, ["host3"]),
+        None if "192 of 192 groups lie as computed" in said else said,
+        None if "map.txt has weights that 'crushtool -d' rounded" in note else note,
+        same_usage(page, program, folder),
+        same_drain(page, program, folder, ["host3"]),
     )
 
 
@@ -133,11 +153,19 @@ def a_text_alone_may_take_classes(page):
     page.by("device")
     used = {it for it, row in page.rows("#places tr[data-device]").items() if row[2] != "0"}
     text = page.ask("GET", f"/t/{tenant}/maps/1")[1]["text"]
-    return first(None if used and all(it % 2 == 0 for it in used) else f"devices with copies: {used}", unlike(text.count("alg straw2"), len(today.buckets), "straw2 buckets:"))
+    return first(
+        None if used and all(it % 2 == 0 for it in used) else f"devices with copies: {used}",
+        unlike(text.count("alg straw2"), len(today.buckets), "straw2 buckets:"),
+    )
 
 
 def cases():
     return (
-        a_changed_text_has_classes_and_weight_sets, hosts_are_added_and_classes_change, devices_change_their_host_and_weight, list_buckets_become_straw2,
-        a_map_that_lacks_a_host_and_a_rule, a_text_stands_in_the_place_of_the_dump, a_text_alone_may_take_classes,
+        a_changed_text_has_classes_and_weight_sets,
+        hosts_are_added_and_classes_change,
+        devices_change_their_host_and_weight,
+        list_buckets_become_straw2,
+        a_map_that_lacks_a_host_and_a_rule,
+        a_text_stands_in_the_place_of_the_dump,
+        a_text_alone_may_take_classes,
     )

@@ -23,7 +23,10 @@ def example(name):
 def serving(program, folder):
     """What `make page` starts. What is given is its port."""
     port = free_port()
-    run = subprocess.Popen(["python3", str(TOP / "tools" / "page"), str(program), "--port", str(port), "--folder", str(folder)], stdout=subprocess.PIPE)
+    run = subprocess.Popen(
+        ["python3", str(TOP / "tools" / "page"), str(program), "--port", str(port), "--folder", str(folder)],
+        stdout=subprocess.PIPE,
+    )
     try:
         line = run.stdout.readline().decode()
         if f"http://127.0.0.1:{port}/page/" not in line:
@@ -104,7 +107,9 @@ class Page:
 
     def settled(self):
         """Waits until nothing of the view is asked for any more."""
-        self.browser.until(lambda: not self.browser.run("return document.querySelectorAll('[aria-busy]').length"), "the view waits")
+        self.browser.until(
+            lambda: not self.browser.run("return document.querySelectorAll('[aria-busy]').length"), "the view waits"
+        )
 
     def by(self, level, table="places"):
         """Shows a table of places by a level."""
@@ -114,11 +119,17 @@ class Page:
     def kept(self, number):
         """Makes the map that was tried a version."""
         self.browser.click("#keep")
-        self.browser.until(lambda: self.browser.all("#to option") and self.browser.one("#to").get_property("value") == str(number), f"no version {number}")
+        self.browser.until(
+            lambda: self.browser.all("#to option") and self.browser.one("#to").get_property("value") == str(number),
+            f"no version {number}",
+        )
 
     def figures(self, which="answer"):
         """The large numbers, by their keys."""
-        script = "return [...document.querySelectorAll(`#${arguments[0]} [data-figure]`)].map((it) => [it.dataset.figure, it.querySelector('dd').textContent])"
+        script = (
+            "return [...document.querySelectorAll(`#${arguments[0]} [data-figure]`)].map((it) => [it.dataset.figure,"
+            " it.querySelector('dd').textContent])"
+        )
         return dict(self.browser.run(script, which))
 
     def drained(self, *names, way="drain"):
@@ -127,24 +138,33 @@ class Page:
         self.browser.click(f"#way option[value='{way}']")
         for name in names:
             self.browser.fill("#drain-search", name)
-            self.browser.until(lambda: [it.click() for it in self.browser.all(".picker > li > label") if name in it.text.split()], f"no {name}")
+            self.browser.until(
+                lambda: [it.click() for it in self.browser.all(".picker > li > label") if name in it.text.split()],
+                f"no {name}",
+            )
         self.browser.click("#drain")
         self.browser.one("#answer")
         self.browser.has(DRAINED)
 
     def rows(self, selector):
         """The rows of tables: of each its device and the texts of its cells."""
-        script = "return [...document.querySelectorAll(arguments[0])].map((row) => [row.dataset.device ?? row.dataset.group ?? row.dataset.place, [...row.children].map((it) => it.textContent.trim())])"
+        script = (
+            "return [...document.querySelectorAll(arguments[0])].map((row) => [row.dataset.device ?? row.dataset.group"
+            " ?? row.dataset.place, [...row.children].map((it) => it.textContent.trim())])"
+        )
         return {int(it) if it.isdigit() else it: cells for it, cells in self.browser.run(script, selector)}
 
     def bars(self, selector, kind):
         """Of each row's device, the place and the width of a mark, in hundredths of the bar."""
         script = """return [...document.querySelectorAll(arguments[0])].map((row) => {
             const it = row.querySelector(arguments[1]);
-            return [row.dataset.device, it && (it.getAttribute("x1") ?? it.getAttribute("x")), it && it.getAttribute("width")];
+            const at = it && (it.getAttribute("x1") ?? it.getAttribute("x"));
+            return [row.dataset.device, at, it && it.getAttribute("width")];
         })"""
         number = lambda it: None if it is None else float(it.rstrip("%"))
-        return {int(device): (number(at), number(width)) for device, at, width in self.browser.run(script, selector, kind)}
+        return {
+            int(device): (number(at), number(width)) for device, at, width in self.browser.run(script, selector, kind)
+        }
 
     def saved(self, selector):
         """The file that a button saves."""
@@ -164,7 +184,13 @@ class Page:
         """What no case may have: an error in the console, or a request to another host."""
         loaded = self.browser.loaded()
         self.copies = sorted({it.split("/t/")[1].split("/")[0] for it in loaded if ".copy-" in it})
-        others = [it for it in loaded if not it.startswith((f"http://127.0.0.1:{self.port}/", f"http://127.0.0.1:{self.proxy.server_port}/", "blob:", "data:"))]
+        others = [
+            it
+            for it in loaded
+            if not it.startswith(
+                (f"http://127.0.0.1:{self.port}/", f"http://127.0.0.1:{self.proxy.server_port}/", "blob:", "data:")
+            )
+        ]
         errors = self.browser.errors()
         return f"it asks for {others[:3]}" if others else f"the console says {errors[:2]}" if errors else None
 

@@ -35,11 +35,17 @@ def few_clicks(page):
 
 def lines_of_the_tree(page):
     """Of each device its buckets from the root, and its line."""
-    return page.browser.run("""return Object.fromEntries([...document.querySelectorAll("#tree [data-device]")].map((it) => {
+    return page.browser.run(
+        """return Object.fromEntries([...document.querySelectorAll("#tree [data-device]")].map((it) => {
         const above = [];
-        for (let at = it.closest("[data-bucket]"); at; at = at.parentElement.closest("[data-bucket]")) above.unshift(at.dataset.bucket);
-        return [it.querySelector(".device").innerText, [above, [it.querySelector(".weight").innerText.trim(), ...[...it.querySelectorAll("button.badge:not(.other)")].map((one) => one.innerText.trim())]]];
-    }))""")
+        for (let at = it.closest("[data-bucket]"); at; at = at.parentElement.closest("[data-bucket]")) {
+            above.unshift(at.dataset.bucket);
+        }
+        const badges = [...it.querySelectorAll("button.badge:not(.other)")].map((one) => one.innerText.trim());
+        const line = [it.querySelector(".weight").innerText.trim(), ...badges];
+        return [it.querySelector(".device").innerText, [above, line]];
+    }))"""
+    )
 
 
 def wanted_tree(text, states=None):
@@ -51,18 +57,26 @@ def wanted_tree(text, states=None):
         while at in above:
             at = above[at][0]
             path.insert(0, at.decode())
-        found[name.decode()] = [path, [map_text.weight_text(above[name][1]).decode(), *(states or {}).get(number, ("in", "up"))]]
+        found[name.decode()] = [
+            path,
+            [map_text.weight_text(above[name][1]).decode(), *(states or {}).get(number, ("in", "up"))],
+        ]
     return found
 
 
 def a_dropped_map_is_imported_and_its_tree_is_shown(page):
     text = example("cluster.txt")
     tenant = page.imported(text, "cluster.txt")
-    types = page.browser.run('return Object.fromEntries([...document.querySelectorAll("#tree [data-bucket] > summary")].map((it) => [it.querySelector(".name").innerText, it.querySelector(".type").innerText]))')
+    types = page.browser.run(
+        'return Object.fromEntries([...document.querySelectorAll("#tree [data-bucket] > summary")].map((it) =>'
+        ' [it.querySelector(".name").innerText, it.querySelector(".type").innerText]))'
+    )
     read = map_text.read(text.encode())
     return first(
-        unlike(lines_of_the_tree(page), wanted_tree(text)), unlike(types, {name.decode(): kind.decode() for _, kind, name, _, _ in read.buckets}),
-        unlike(page.ask("GET", f"/t/{tenant}/maps/1")[1]["text"], map_text.write(read).decode()), few_clicks(page),
+        unlike(lines_of_the_tree(page), wanted_tree(text)),
+        unlike(types, {name.decode(): kind.decode() for _, kind, name, _, _ in read.buckets}),
+        unlike(page.ask("GET", f"/t/{tenant}/maps/1")[1]["text"], map_text.write(read).decode()),
+        few_clicks(page),
     )
 
 
@@ -70,11 +84,14 @@ def a_file_is_chosen_and_states_of_devices_are_shown(page):
     tenant = page.fresh()
     page.browser.all("#file")[0].send_keys(str(EXAMPLES / "three_hosts.txt"))
     page.browser.one("#tree [data-bucket]")
-    page.drop("id,reweight,up\r\n0,0,1\r\n\"1\",32768,1\r\n2,65536,0\r\n", "states.csv", "3 devices")
+    page.drop('id,reweight,up\r\n0,0,1\r\n"1",32768,1\r\n2,65536,0\r\n', "states.csv", "3 devices")
     states = {0: ("out", "up"), 1: ("reweight 0.5", "up"), 2: ("in", "down")}
     page.browser.driver.refresh()
     page.browser.one("#tree [data-bucket]")
-    return first(unlike(lines_of_the_tree(page), wanted_tree(example("three_hosts.txt"), states)), unlike(page.summary(tenant), {"devices": 3, "epoch": 2, "pools": 0, "tenant": tenant, "versions": 1}))
+    return first(
+        unlike(lines_of_the_tree(page), wanted_tree(example("three_hosts.txt"), states)),
+        unlike(page.summary(tenant), {"devices": 3, "epoch": 2, "pools": 0, "tenant": tenant, "versions": 1}),
+    )
 
 
 def names_that_no_tenant_may_have(page):
@@ -82,8 +99,13 @@ def names_that_no_tenant_may_have(page):
     for it in ("", ".", "..", "a b", "a/b", "<b>"):
         page.browser.fill("#name", it)
         page.browser.drop(example("three_hosts.txt"), "three_hosts.txt")
-        page.browser.until(lambda: not page.browser.run("return document.getElementById('name').checkValidity()"), f"{it!r} is taken")
-    return first(unlike(page.browser.text("h1"), "Plan a cluster on paper"), unlike([it for it in page.browser.loaded() if "/t/" in it], [], "requests:"))
+        page.browser.until(
+            lambda: not page.browser.run("return document.getElementById('name').checkValidity()"), f"{it!r} is taken"
+        )
+    return first(
+        unlike(page.browser.text("h1"), "Plan a cluster on paper"),
+        unlike([it for it in page.browser.loaded() if "/t/" in it], [], "requests:"),
+    )
 
 
 def the_first_view_says_what_to_do(page):
@@ -93,10 +115,18 @@ def the_first_view_says_what_to_do(page):
     note, whole = page.browser.text(".start .note"), page.browser.text("main")
     page.browser.click(".start .note summary")
     more, command = page.browser.text(".start .note"), page.browser.text(".start .note pre")
-    tops = page.browser.run("return ['.start .note', '#name', '.drop', '#there'].map((it) => document.querySelector(it).getBoundingClientRect().top)")
+    tops = page.browser.run(
+        "return ['.start .note', '#name', '.drop', '#there'].map((it) =>"
+        " document.querySelector(it).getBoundingClientRect().top)"
+    )
     return first(
-        unlike(label, "Cluster (tenant)"), None if "A name of your choice" in hint and "calls that a tenant" in hint else hint, None if "straw2" in note and "can't compute" in note else note,
-        unlike(whole.count("tenant"), 2, "'tenant' stands so often:"), None if STRAW in more else more, None if f"    {command}\n" in STRAW_PAGE else command, unlike(tops, sorted(tops), "the order is"),
+        unlike(label, "Cluster (tenant)"),
+        None if "A name of your choice" in hint and "calls that a tenant" in hint else hint,
+        None if "straw2" in note and "can't compute" in note else note,
+        unlike(whole.count("tenant"), 2, "'tenant' stands so often:"),
+        None if STRAW in more else more,
+        None if f"    {command}\n" in STRAW_PAGE else command,
+        unlike(tops, sorted(tops), "the order is"),
     )
 
 
@@ -109,7 +139,10 @@ def a_name_that_is_taken(page):
     said = page.browser.text("#said .fault")
     page.browser.named("#said a", f"open {tenant}").click()
     page.browser.one("#tree [data-bucket]")
-    return first(None if said.startswith(f"There is a cluster {tenant} already.") else said, unlike(page.summary(tenant), summary))
+    return first(
+        None if said.startswith(f"There is a cluster {tenant} already.") else said,
+        unlike(page.summary(tenant), summary),
+    )
 
 
 def one_that_is_there_is_opened(page):
@@ -125,7 +158,9 @@ def one_that_is_there_is_opened(page):
     page.browser.fill("#there", tenant)
     page.browser.named("button", "Open it").click()
     page.browser.one("#tree [data-bucket]")
-    return first(unlike(links, [tenant]), None if said.startswith("nobody: 404 no_tenant") else said, unlike(address, "#/"))
+    return first(
+        unlike(links, [tenant]), None if said.startswith("nobody: 404 no_tenant") else said, unlike(address, "#/")
+    )
 
 
 def a_refused_first_map_leaves_nothing(page):
@@ -143,8 +178,11 @@ def a_refused_first_map_leaves_nothing(page):
     page.browser.until(lambda: page.browser.text("h1") == "Plan a cluster on paper", "the first view")
     links = [it.text for it in page.browser.all(".tenants a")]
     return first(
-        unlike(there, {"devices": 0, "epoch": 0, "pools": 0, "tenant": tenant, "versions": 0}), None if question.startswith(f"Delete {tenant}?") and "no map" in question else question,
-        unlike(kept, 200, "the status after keeping it:"), unlike(page.ask("GET", f"/t/{tenant}"), (404, {"error": "no_tenant"})), unlike(links, []),
+        unlike(there, {"devices": 0, "epoch": 0, "pools": 0, "tenant": tenant, "versions": 0}),
+        None if question.startswith(f"Delete {tenant}?") and "no map" in question else question,
+        unlike(kept, 200, "the status after keeping it:"),
+        unlike(page.ask("GET", f"/t/{tenant}"), (404, {"error": "no_tenant"})),
+        unlike(links, []),
     )
 
 
@@ -156,8 +194,23 @@ def a_cluster_is_deleted(page):
     page.browser.named("dialog button", "Delete it").click()
     page.browser.one("#name")
     return first(
-        few_clicks(page), None if all(it in question for it in ("1 versions", "1 pools", "0 device states", "can't be had back", "Your Ceph cluster isn't touched")) else question,
-        unlike(page.ask("GET", f"/t/{tenant}"), (404, {"error": "no_tenant"})), unlike(page.browser.run("return Object.keys(localStorage)"), [], "the browser keeps"),
+        few_clicks(page),
+        (
+            None
+            if all(
+                it in question
+                for it in (
+                    "1 versions",
+                    "1 pools",
+                    "0 device states",
+                    "can't be had back",
+                    "Your Ceph cluster isn't touched",
+                )
+            )
+            else question
+        ),
+        unlike(page.ask("GET", f"/t/{tenant}"), (404, {"error": "no_tenant"})),
+        unlike(page.browser.run("return Object.keys(localStorage)"), [], "the browser keeps"),
     )
 
 
@@ -167,7 +220,13 @@ def states_by(command, dump):
         ceph = pathlib.Path(folder) / "ceph"
         ceph.write_text(f"#!/bin/sh\ncat <<'END'\n{dump}\nEND\n")
         ceph.chmod(0o755)
-        subprocess.run(["sh", "-c", command], cwd=folder, env={**os.environ, "PATH": f"{folder}:{os.environ['PATH']}"}, check=True, timeout=60)
+        subprocess.run(
+            ["sh", "-c", command],
+            cwd=folder,
+            env={**os.environ, "PATH": f"{folder}:{os.environ['PATH']}"},
+            check=True,
+            timeout=60,
+        )
         return (pathlib.Path(folder) / "states.csv").read_text()
 
 
@@ -179,10 +238,15 @@ def devices_are_saved_as_csv(page):
     states_of = states_by(page.browser.text(".drop pre"), Cluster(1, 1, 3).osd((), {1: (0.5, True), 2: (1, False)}))
     rows = [it.split(",") for it in page.saved("#devices-csv").splitlines()]
     tree, states = wanted_tree(example("cluster.txt")), {"osd.4": ["32768", "0"]}
-    wanted = [[name[4:], name, path[-1], words[0], *states.get(name, ["65536", "1"]), " ".join(reversed(path[:-1]))] for name, (path, words) in tree.items()]
+    wanted = [
+        [name[4:], name, path[-1], words[0], *states.get(name, ["65536", "1"]), " ".join(reversed(path[:-1]))]
+        for name, (path, words) in tree.items()
+    ]
     return first(
-        unlike(rows[0], "device name host weight reweight up above".split()), unlike(sorted(rows[1:]), sorted(wanted)),
-        None if "Classes of devices (hdd, ssd) aren't shown" in note else note, None if f"    {dumps}\n" in PAGE else dumps,
+        unlike(rows[0], "device name host weight reweight up above".split()),
+        unlike(sorted(rows[1:]), sorted(wanted)),
+        None if "Classes of devices (hdd, ssd) aren't shown" in note else note,
+        None if f"    {dumps}\n" in PAGE else dumps,
         unlike(states_of, "id,reweight,up\n0,65536,1\n1,32768,1\n2,65536,0\n"),
     )
 
@@ -191,7 +255,10 @@ def a_tree_can_be_searched(page):
     page.imported(example("cluster.txt"))
     page.browser.fill("#tree-search", "osd.11")
     page.browser.until(lambda: len(page.browser.all("#tree [data-device]")) == 1, "not one device is found")
-    return first(unlike(page.browser.text("#tree [data-device] .device"), "osd.11"), unlike(page.browser.text("#tree .above"), "in host3, rack1, default"))
+    return first(
+        unlike(page.browser.text("#tree [data-device] .device"), "osd.11"),
+        unlike(page.browser.text("#tree .above"), "in host3, rack1, default"),
+    )
 
 
 def smallest_texts():
@@ -200,7 +267,9 @@ def smallest_texts():
     get it."""
     for section in re.split(r"^(?=\*\*[XM]\d+\*\*: )", MAPS, flags=re.MULTILINE)[1:]:
         code = re.match(r"\*\*([XM]\d+)\*\*", section)[1]
-        meaning = re.sub(r"\[([^\]]*)\]\([^)]*\)", r"\1", " ".join(section.split("\n\n")[0].split("**: ")[1].split())).replace("`", "")
+        meaning = re.sub(
+            r"\[([^\]]*)\]\([^)]*\)", r"\1", " ".join(section.split("\n\n")[0].split("**: ")[1].split())
+        ).replace("`", "")
         pairs = re.findall(r"^```\n((?:.*\n)*?)```\n`refused line (\d+) code [XM]\d+`$", section, flags=re.MULTILINE)
         for text, line in pairs or [("#" * 4_194_305, 1)]:
             asked = text if text.startswith("# crushcalc: straw2\n") else text.replace("alg straw2", "alg straw")
@@ -217,30 +286,54 @@ def every_code_is_shown_at_its_line(page):
         page.browser.run("document.getElementById('said').replaceChildren()")
         page.browser.drop(text, name)
         title = page.browser.text(".refused h3")
-        said = page.browser.run("return [...document.querySelectorAll('.refused .here')].map((it) => [it.value, it.querySelector('code').textContent, it.querySelector('.meaning').textContent])")
+        said = page.browser.run(
+            "return [...document.querySelectorAll('.refused .here')].map((it) => [it.value,"
+            " it.querySelector('code').textContent, it.querySelector('.meaning').textContent])"
+        )
         wanted = (text.split("\n")[line - 1])[:300]
         words = f"crushcalc can't compute {name}" if code in NOT_COMPUTED else f"{name} isn't imported"
-        if why := first(unlike(title, f"{words}: line {line}, code {code}"), unlike([it[:2] for it in said], [[line, wanted + (" .." if len(text) > 300 and line == 1 and "\n" not in text else "")]], code)):
+        if why := first(
+            unlike(title, f"{words}: line {line}, code {code}"),
+            unlike(
+                [it[:2] for it in said],
+                [[line, wanted + (" .." if len(text) > 300 and line == 1 and "\n" not in text else "")]],
+                code,
+            ),
+        ):
             return why
         if not said[0][2].startswith(f"{code}: {meaning.removesuffix(' may have')}"):
             return f"{code} is said to be {said[0][2]!r}, not {meaning!r}"
         whole = page.browser.text(".refused")
-        if (code in NOT_COMPUTED) != ("Nothing is wrong with such a map" in whole) or (code == "X2") != (STRAW in whole and "straw2?/\\1list/'" in whole) or "docs/" in whole:
+        if (
+            (code in NOT_COMPUTED) != ("Nothing is wrong with such a map" in whole)
+            or (code == "X2") != (STRAW in whole and "straw2?/\\1list/'" in whole)
+            or "docs/" in whole
+        ):
             return f"{code}: the page says {whole}"
     return unlike(len(codes), 22, "the codes are")
 
 
 def a_text_is_never_markup(page):
     page.imported(example("three_hosts.txt"))
-    page.browser.drop(f"tunable choose_local_tries 0\n# {MARKUP}\ndevice 0 {MARKUP}\n", f"{MARKUP.replace('/', '')}.txt")
+    page.browser.drop(
+        f"tunable choose_local_tries 0\n# {MARKUP}\ndevice 0 {MARKUP}\n", f"{MARKUP.replace('/', '')}.txt"
+    )
     page.browser.one(".refused")
     lines = page.browser.run("return [...document.querySelectorAll('.refused li code')].map((it) => it.textContent)")
     inside = page.browser.run("return document.querySelectorAll('main b, main img, main i').length")
-    injected = page.browser.run("try { document.querySelector('main').innerHTML = '<b>x</b>'; return 'taken'; } catch (why) { return why.name; }")
-    policy = page.browser.run("const asked = new XMLHttpRequest(); asked.open('GET', location.pathname, false); asked.send(); return asked.getResponseHeader('Content-Security-Policy');")
+    injected = page.browser.run(
+        "try { document.querySelector('main').innerHTML = '<b>x</b>'; return 'taken'; } catch (why) { return"
+        " why.name; }"
+    )
+    policy = page.browser.run(
+        "const asked = new XMLHttpRequest(); asked.open('GET', location.pathname, false); asked.send(); return"
+        " asked.getResponseHeader('Content-Security-Policy');"
+    )
     page.browser.errors()  # the refused markup above is one
     return first(
-        unlike(lines[1:3], [f"# {MARKUP}", f"device 0 {MARKUP}"]), unlike(inside, 0, "elements of the text:"), unlike(injected, "TypeError"),
+        unlike(lines[1:3], [f"# {MARKUP}", f"device 0 {MARKUP}"]),
+        unlike(inside, 0, "elements of the text:"),
+        unlike(injected, "TypeError"),
         None if policy and "default-src 'none'" in policy and "unsafe" not in policy else f"the policy is {policy}",
     )
 
@@ -262,9 +355,15 @@ def a_pool_has_the_defaults_of_ceph(page):
     page.browser.click("#kind option[value='erasure']")
     size = page.browser.one("#size").get_property("value")
     return first(
-        clicks, unlike([it["up"] for _, it in found[:32]], wanted), unlike(found[32], (404, {"error": "no_group"})),
-        unlike(row, ["1", "photos", "replicated", "3", "2", "0", "32", "32", "yes", "0", "Remove"]), unlike(size, "4", "the size of an erasure pool is"), unlike(focus, "said", "the focus is on"),
-        unlike(text, "id,name,kind,size,min_size,rule,pg_num,pgp_num,hashpspool\n1,photos,replicated,3,2,0,32,32,true\n"),
+        clicks,
+        unlike([it["up"] for _, it in found[:32]], wanted),
+        unlike(found[32], (404, {"error": "no_group"})),
+        unlike(row, ["1", "photos", "replicated", "3", "2", "0", "32", "32", "yes", "0", "Remove"]),
+        unlike(size, "4", "the size of an erasure pool is"),
+        unlike(focus, "said", "the focus is on"),
+        unlike(
+            text, "id,name,kind,size,min_size,rule,pg_num,pgp_num,hashpspool\n1,photos,replicated,3,2,0,32,32,true\n"
+        ),
     )
 
 
@@ -273,13 +372,30 @@ def a_pool_that_is_refused(page):
     page.browser.fill("#pool-id", "1")
     page.browser.fill("#pool-name", "photos")
     page.browser.click("form button.main")
-    return first(unlike(page.browser.text("#said .fault"), "The pool isn't made. 409 exists: it is there already."), unlike(page.browser.run("return document.activeElement.id"), "said", "the focus is on"))
+    return first(
+        unlike(page.browser.text("#said .fault"), "The pool isn't made. 409 exists: it is there already."),
+        unlike(page.browser.run("return document.activeElement.id"), "said", "the focus is on"),
+    )
 
 
 def a_pool_that_was_made_elsewhere(page):
     """This browser doesn't know it; filled in as it was made, it is used."""
     tenant = page.imported(example("three_hosts.txt"))
-    page.ask("POST", f"/t/{tenant}/pools", {"request": "p", "id": 7, "name": "old", "kind": "replicated", "size": 2, "rule": 0, "pg_num": 16, "pgp_num": 16, "hashpspool": True})
+    page.ask(
+        "POST",
+        f"/t/{tenant}/pools",
+        {
+            "request": "p",
+            "id": 7,
+            "name": "old",
+            "kind": "replicated",
+            "size": 2,
+            "rule": 0,
+            "pg_num": 16,
+            "pgp_num": 16,
+            "hashpspool": True,
+        },
+    )
     page.browser.tab("Pools")
     note = page.browser.text("main .note")
     for field, value in (("pool-id", 7), ("pool-name", "old"), ("size", 2), ("pg_num", 16)):
@@ -303,28 +419,55 @@ def a_pool_is_removed(page):
     page.browser.click("[data-remove='1']")
     page.browser.named("dialog button", "Remove it").click()
     page.browser.until(lambda: "The pool photos is removed" in page.browser.text("#said"), "the pool isn't removed")
-    return first(unlike(kept, 1, "pools after keeping it:"), unlike(page.summary(tenant)["pools"], 0, "pools:"), unlike(len(page.browser.all("main tbody tr")), 0, "rows:"))
+    return first(
+        unlike(kept, 1, "pools after keeping it:"),
+        unlike(page.summary(tenant)["pools"], 0, "pools:"),
+        unlike(len(page.browser.all("main tbody tr")), 0, "rows:"),
+    )
 
 
 def states_are_set_by_a_click(page):
     """Out, in and down by the badges of the tree, and another reweight by its question."""
     tenant = page.planned()
     page.browser.tab("Map")
-    for words, holds in (("in: take it out (of osd.0)", {0: (0, True)}), ("out: take it in (of osd.0)", {0: (65536, True)}), ("up: say that it is down (of osd.3)", {0: (65536, True), 3: (65536, False)})):
-        page.browser.until(lambda: page.browser.run("const it = document.querySelector(`button.badge[aria-label='${arguments[0]}']`); it?.click(); return Boolean(it)", words), f"no badge {words}")
+    for words, holds in (
+        ("in: take it out (of osd.0)", {0: (0, True)}),
+        ("out: take it in (of osd.0)", {0: (65536, True)}),
+        ("up: say that it is down (of osd.3)", {0: (65536, True), 3: (65536, False)}),
+    ):
+        page.browser.until(
+            lambda: page.browser.run(
+                (
+                    "const it = document.querySelector(`button.badge[aria-label='${arguments[0]}']`); it?.click();"
+                    " return Boolean(it)"
+                ),
+                words,
+            ),
+            f"no badge {words}",
+        )
         page.browser.until(lambda: states_known(page, tenant) == holds, f"the states aren't {holds}")
-    page.browser.until(lambda: page.browser.run("const it = document.querySelector(`button.badge[aria-label='Another reweight (of osd.1)']`); it?.click(); return Boolean(it)"), "no other reweight")
+    page.browser.until(
+        lambda: page.browser.run(
+            "const it = document.querySelector(`button.badge[aria-label='Another reweight (of osd.1)']`); it?.click();"
+            " return Boolean(it)"
+        ),
+        "no other reweight",
+    )
     page.browser.fill("#reweight", "0.25")
     page.browser.named("dialog button", "Set it").click()
     page.browser.until(lambda: states_known(page, tenant).get(1) == (16384, True), "the reweight isn't set")
     wanted = Placed(example("three_hosts.txt"), pool=1, size=2, pg_num=16, reweights={1: 16384}, down={3}).usage()
     found = {it["device"]: it["entries"] for it in page.ask("GET", f"/t/{tenant}/pools/1/usage")[1]["rows"]}
-    page.browser.until(lambda: lines_of_the_tree(page)["osd.1"][1][1:] == ["reweight 0.25", "up"], "the reweight isn't shown")
+    page.browser.until(
+        lambda: lines_of_the_tree(page)["osd.1"][1][1:] == ["reweight 0.25", "up"], "the reweight isn't shown"
+    )
     return unlike(found, {it: row[0] for it, row in wanted.items()})
 
 
 def states_known(page, tenant):
-    known = page.browser.run("return JSON.parse(localStorage.getItem(`crushcalc.tenant.${arguments[0]}`)).states", tenant)
+    known = page.browser.run(
+        "return JSON.parse(localStorage.getItem(`crushcalc.tenant.${arguments[0]}`)).states", tenant
+    )
     return {int(it): (state["reweight"], state["up"]) for it, state in known.items()}
 
 
@@ -334,26 +477,46 @@ def holes_are_mended(page):
     text = holed(example("three_hosts.txt"))
     page.fresh()
     page.browser.drop(text, "holes.txt")
-    title, lines = page.browser.text(".refused h3"), page.browser.run("return [...document.querySelectorAll('.refused .here')].map((it) => [it.value, it.querySelector('code').textContent.trim()])")
+    title, lines = page.browser.text(".refused h3"), page.browser.run(
+        "return [...document.querySelectorAll('.refused .here')].map((it) => [it.value,"
+        " it.querySelector('code').textContent.trim()])"
+    )
     offered = page.browser.text("#mending p")
     page.browser.click("#mend")
     page.browser.one("#tree [data-bucket]")
     page.pool(size=2, pg_num=64)
     page.browser.tab("Usage")
     page.by("device")
-    wanted = Placed(text.replace("osd.0 weight 0.000 pos 2", "gone weight 0.000 pos 2").replace("osd.0 weight 0.000 pos 3", "lost weight 0.000 pos 3").replace("\ntype 0", "\ndevice 6 gone\ndevice 7 lost\ntype 0", 1), pool=1, size=2, pg_num=64)
+    wanted = Placed(
+        text.replace("osd.0 weight 0.000 pos 2", "gone weight 0.000 pos 2")
+        .replace("osd.0 weight 0.000 pos 3", "lost weight 0.000 pos 3")
+        .replace("\ntype 0", "\ndevice 6 gone\ndevice 7 lost\ntype 0", 1),
+        pool=1,
+        size=2,
+        pg_num=64,
+    )
     found = {it: int(row[2]) for it, row in page.rows("#places tr[data-device]").items() if int(row[2])}
     at = text.split("\n").index("\titem osd.0 weight 0.000 pos 3") + 1
     return first(
-        None if "code M6" in title else title, unlike(lines, [[at, "item osd.0 weight 0.000 pos 3"]]), None if "has 2 holes" in offered else offered,
-        unlike(found, {it: row[0] for it, row in wanted.usage().items() if row[0]}), unlike(sorted(page.rows("#places tr[data-device]")), [*range(6)], "devices that are shown:"),
+        None if "code M6" in title else title,
+        unlike(lines, [[at, "item osd.0 weight 0.000 pos 3"]]),
+        None if "has 2 holes" in offered else offered,
+        unlike(found, {it: row[0] for it, row in wanted.usage().items() if row[0]}),
+        unlike(sorted(page.rows("#places tr[data-device]")), [*range(6)], "devices that are shown:"),
     )
 
 
 def holed(text):
     """The map of three hosts with tree buckets, of which host1 has lost two devices at its end."""
-    items = "\titem osd.2 weight 1.000 pos 0\n\titem osd.3 weight 1.000 pos 1\n\titem osd.0 weight 0.000 pos 2\n\titem osd.0 weight 0.000 pos 3\n\titem osd.4 weight 1.000 pos 4\n"
-    lines = [line for line in text.replace("alg list", "alg tree").split("\n") if not line.strip().startswith(("item osd.2", "item osd.3", "item osd.4"))]
+    items = (
+        "\titem osd.2 weight 1.000 pos 0\n\titem osd.3 weight 1.000 pos 1\n\titem osd.0 weight 0.000 pos 2\n\titem"
+        " osd.0 weight 0.000 pos 3\n\titem osd.4 weight 1.000 pos 4\n"
+    )
+    lines = [
+        line
+        for line in text.replace("alg list", "alg tree").split("\n")
+        if not line.strip().startswith(("item osd.2", "item osd.3", "item osd.4"))
+    ]
     body = "\n".join(lines).replace("host host1 {", "host host1 {\n@@", 1)
     start = body.index("@@")
     end = body.index("}", start)
@@ -369,13 +532,17 @@ def an_object_is_found(page):
     page.browser.fill("#object", "cat.jpg")
     page.browser.click("form button.main")
     page.browser.one("#found")
-    clicks, devices = few_clicks(page), [int(it.get_attribute("data-device")) for it in page.browser.all("#found [data-device]")]
+    clicks, devices = few_clicks(page), [
+        int(it.get_attribute("data-device")) for it in page.browser.all("#found [data-device]")
+    ]
     whole = page.browser.text("#found")
     page.browser.fill("#object", MARKUP)
     page.browser.click("form button.main")
     page.browser.until(lambda: page.browser.text("#found h2") == MARKUP, "the name isn't shown as it is")
     group = crush.stable_mod(crush.name_hash(MARKUP.encode()), 16)
-    placed, named = Placed(example("three_hosts.txt"), pool=1, size=2, pg_num=16), [int(it.get_attribute("data-device")) for it in page.browser.all("#found [data-device]")]
+    placed, named = Placed(example("three_hosts.txt"), pool=1, size=2, pg_num=16), [
+        int(it.get_attribute("data-device")) for it in page.browser.all("#found [data-device]")
+    ]
     page.browser.fill("#group", "15")
     page.browser.named("form button", "Where is it?")
     page.browser.all("form[aria-label='A group'] button")[0].click()
@@ -389,14 +556,37 @@ def an_object_is_found(page):
     page.browser.all("form[aria-label='A group'] button")[0].click()
     taken = page.browser.run("return document.getElementById('group').checkValidity()")
     return first(
-        clicks, unlike(devices, [4, 0]), None if all(it in whole for it in ("326290889", "2168299143", "primary")) else whole, unlike(named, placed.up[group]),
-        unlike(of_group, placed.up[15]), None if "1.f" in facts else facts, unlike(taken, False, "a group of another pool is taken:"), unlike(len(page.browser.all("main b, main img")), 0), unlike(page.summary(tenant)["epoch"], 2),
+        clicks,
+        unlike(devices, [4, 0]),
+        None if all(it in whole for it in ("326290889", "2168299143", "primary")) else whole,
+        unlike(named, placed.up[group]),
+        unlike(of_group, placed.up[15]),
+        None if "1.f" in facts else facts,
+        unlike(taken, False, "a group of another pool is taken:"),
+        unlike(len(page.browser.all("main b, main img")), 0),
+        unlike(page.summary(tenant)["epoch"], 2),
     )
 
 
 def cases():
     return (
-        a_dropped_map_is_imported_and_its_tree_is_shown, a_file_is_chosen_and_states_of_devices_are_shown, names_that_no_tenant_may_have, the_first_view_says_what_to_do, a_name_that_is_taken,
-        one_that_is_there_is_opened, a_refused_first_map_leaves_nothing, a_cluster_is_deleted, devices_are_saved_as_csv, a_tree_can_be_searched, every_code_is_shown_at_its_line, a_text_is_never_markup,
-        a_pool_has_the_defaults_of_ceph, a_pool_that_is_refused, a_pool_that_was_made_elsewhere, a_pool_is_removed, states_are_set_by_a_click, holes_are_mended, an_object_is_found,
+        a_dropped_map_is_imported_and_its_tree_is_shown,
+        a_file_is_chosen_and_states_of_devices_are_shown,
+        names_that_no_tenant_may_have,
+        the_first_view_says_what_to_do,
+        a_name_that_is_taken,
+        one_that_is_there_is_opened,
+        a_refused_first_map_leaves_nothing,
+        a_cluster_is_deleted,
+        devices_are_saved_as_csv,
+        a_tree_can_be_searched,
+        every_code_is_shown_at_its_line,
+        a_text_is_never_markup,
+        a_pool_has_the_defaults_of_ceph,
+        a_pool_that_is_refused,
+        a_pool_that_was_made_elsewhere,
+        a_pool_is_removed,
+        states_are_set_by_a_click,
+        holes_are_mended,
+        an_object_is_found,
     )

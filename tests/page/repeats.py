@@ -19,7 +19,11 @@ def through(page):
 
 def one_body(bodies, count):
     numbers = {json.loads(it)["request"] for it in bodies}
-    return first(unlike(len(bodies), count, "requests:"), unlike(len(set(bodies)), 1, "bodies:"), None if all(16 <= len(it) <= 64 for it in numbers) else f"the numbers are {numbers}")
+    return first(
+        unlike(len(bodies), count, "requests:"),
+        unlike(len(set(bodies)), 1, "bodies:"),
+        None if all(16 <= len(it) <= 64 for it in numbers) else f"the numbers are {numbers}",
+    )
 
 
 def a_lost_reply_is_asked_for_again(page):
@@ -28,7 +32,11 @@ def a_lost_reply_is_asked_for_again(page):
     page.proxy.loses = 1
     page.drop(example("four_hosts.txt"), "four_hosts.txt", "version 2")
     bodies = [it for it in posts(page, f"/t/{tenant}/maps") if b"osd.7" in it]
-    return first(one_body(bodies, 2), unlike(page.summary(tenant)["versions"], 2, "versions:"), unlike(page.browser.run(KEPT), 0, "kept:"))
+    return first(
+        one_body(bodies, 2),
+        unlike(page.summary(tenant)["versions"], 2, "versions:"),
+        unlike(page.browser.run(KEPT), 0, "kept:"),
+    )
 
 
 def a_reload_repeats_what_had_no_reply(page):
@@ -44,8 +52,11 @@ def a_reload_repeats_what_had_no_reply(page):
     page.browser.driver.refresh()
     page.browser.until(lambda: len(page.browser.all("main tbody tr")) == 1, "the pool isn't listed after a reload")
     return first(
-        None if "no reply came" in notice else notice, unlike(kept, 1, "kept:"), one_body(posts(page, f"/t/{tenant}/pools"), 3),
-        unlike(page.summary(tenant), {"devices": 0, "epoch": 2, "pools": 1, "tenant": tenant, "versions": 1}), unlike(page.browser.run(KEPT), 0, "kept:"),
+        None if "no reply came" in notice else notice,
+        unlike(kept, 1, "kept:"),
+        one_body(posts(page, f"/t/{tenant}/pools"), 3),
+        unlike(page.summary(tenant), {"devices": 0, "epoch": 2, "pools": 1, "tenant": tenant, "versions": 1}),
+        unlike(page.browser.run(KEPT), 0, "kept:"),
     )
 
 
@@ -62,8 +73,11 @@ def a_503_is_shown_and_repeated(page):
     page.browser.until(lambda: "version 2" in page.browser.text("#said"), "it isn't imported")
     bodies = [it for it in posts(page, f"/t/{tenant}/maps") if b"osd.7" in it]
     return first(
-        next((it for it in notices if "503 no_memory" not in it or "Import four_hosts.txt" not in it), None), unlike(versions, 1, "versions before the repeats:"), one_body(bodies, 3),
-        unlike(page.summary(tenant)["versions"], 2, "versions:"), unlike(len(page.browser.all(".notice")), 0, "notices:"),
+        next((it for it in notices if "503 no_memory" not in it or "Import four_hosts.txt" not in it), None),
+        unlike(versions, 1, "versions before the repeats:"),
+        one_body(bodies, 3),
+        unlike(page.summary(tenant)["versions"], 2, "versions:"),
+        unlike(len(page.browser.all(".notice")), 0, "notices:"),
     )
 
 
@@ -80,7 +94,12 @@ def what_the_web_server_refuses_is_sent_again(page):
     page.proxy.busy = 0
     page.browser.named(".notice button", "Repeat").click()
     page.browser.until(lambda: page.browser.text("h1") == "Pools", "no view")
-    return first(unlike(left, 0, "left:"), unlike(len(set(bodies)), 1, "bodies:"), unlike(page.summary(tenant)["versions"], 2, "versions:"), None if "503" in notice else notice)
+    return first(
+        unlike(left, 0, "left:"),
+        unlike(len(set(bodies)), 1, "bodies:"),
+        unlike(page.summary(tenant)["versions"], 2, "versions:"),
+        None if "503" in notice else notice,
+    )
 
 
 def what_is_given_up_is_forgotten(page):
@@ -113,8 +132,8 @@ def a_drain_with_lost_replies_and_a_503(page):
     return first(None if page.copies else "there was no copy", unlike(page.summary(tenant), summary))
 
 
-def a_copy_goes_with_its_page(page):
-    """A drain goes on, on its copy; then the page is closed and not opened again."""
+def interrupted(page):
+    """A drain whose first request is refused, so that it goes on, on a copy; returns its tenant."""
     tenant = page.imported(example("three_hosts.txt"), port=through(page))
     page.pool(size=2, pg_num=16)
     page.browser.tab("Drain")
@@ -123,6 +142,12 @@ def a_copy_goes_with_its_page(page):
     page.browser.click("#drain")
     page.browser.one(".notice")
     page.faults()
+    return tenant
+
+
+def a_copy_goes_with_its_page(page):
+    """A drain goes on, on its copy; then the page is closed and not opened again."""
+    tenant = interrupted(page)
     name = next(it for it in page.copies if it.startswith(f"{tenant}.copy-"))
     there = page.ask("GET", f"/t/{name}")[0]
     page.browser.open("about:blank")
@@ -140,7 +165,11 @@ def a_cluster_is_deleted_at_the_second_try(page):
     there = page.ask("GET", f"/t/{tenant}")[0]
     page.browser.named(".notice button", "Repeat").click()
     page.browser.one("#name")
-    return first(None if "503 store_failed" in notice and f"Delete {tenant}" in notice else notice, unlike(there, 200, "its status before the repeat:"), unlike(page.ask("GET", f"/t/{tenant}")[0], 404, "its status:"))
+    return first(
+        None if "503 store_failed" in notice and f"Delete {tenant}" in notice else notice,
+        unlike(there, 200, "its status before the repeat:"),
+        unlike(page.ask("GET", f"/t/{tenant}")[0], 404, "its status:"),
+    )
 
 
 def a_drain_is_stopped(page):
@@ -160,19 +189,16 @@ def a_drain_is_stopped(page):
     page.faults()
     for it in page.copies:
         page.browser.until(lambda: page.ask("GET", f"/t/{it}")[0] == 404, f"the copy {it} is left")
-    return first(unlike(said, "Stopped."), unlike(len(page.browser.all("#usages")), 0, "usages:"), unlike(page.summary(tenant), summary))
+    return first(
+        unlike(said, "Stopped."),
+        unlike(len(page.browser.all("#usages")), 0, "usages:"),
+        unlike(page.summary(tenant), summary),
+    )
 
 
 def a_copy_that_was_left_is_dropped(page):
     """The page is loaded anew in the middle of a drain: the copy is dropped when it is back."""
-    tenant = page.imported(example("three_hosts.txt"), port=through(page))
-    page.pool(size=2, pg_num=16)
-    page.browser.tab("Drain")
-    page.browser.named("label.host", "host1").click()
-    page.proxy.refuses = 1
-    page.browser.click("#drain")
-    page.browser.one(".notice")
-    page.faults()
+    tenant = interrupted(page)
     name = next(it for it in page.copies if it.startswith(tenant))
     there = page.ask("GET", f"/t/{name}")[0]
     page.browser.driver.refresh()
@@ -182,4 +208,15 @@ def a_copy_that_was_left_is_dropped(page):
 
 
 def cases():
-    return (a_lost_reply_is_asked_for_again, a_reload_repeats_what_had_no_reply, a_503_is_shown_and_repeated, what_the_web_server_refuses_is_sent_again, what_is_given_up_is_forgotten, a_drain_with_lost_replies_and_a_503, a_copy_goes_with_its_page, a_cluster_is_deleted_at_the_second_try, a_drain_is_stopped, a_copy_that_was_left_is_dropped)
+    return (
+        a_lost_reply_is_asked_for_again,
+        a_reload_repeats_what_had_no_reply,
+        a_503_is_shown_and_repeated,
+        what_the_web_server_refuses_is_sent_again,
+        what_is_given_up_is_forgotten,
+        a_drain_with_lost_replies_and_a_503,
+        a_copy_goes_with_its_page,
+        a_cluster_is_deleted_at_the_second_try,
+        a_drain_is_stopped,
+        a_copy_that_was_left_is_dropped,
+    )

@@ -12,9 +12,19 @@ def a_view_that_waits_says_so(page):
     page.browser.until(lambda: page.browser.all("main tbody tr a"), "the pools aren't shown")
     page.proxy.holds, page.proxy.held = 8, "/usage"
     page.browser.named("nav a", "Usage").click()
-    page.browser.until(lambda: page.browser.run("return document.getElementById('waiting').innerText").startswith("Usage"), "it isn't said what is asked for")
-    early = page.browser.run("return [document.querySelector('#stop').offsetParent === null, document.querySelector('h1').textContent]")
-    page.browser.until(lambda: re.search(r"still waiting, [5-7] s", page.browser.run("return document.getElementById('waiting').textContent")), "the seconds aren't said")
+    page.browser.until(
+        lambda: page.browser.run("return document.getElementById('waiting').innerText").startswith("Usage"),
+        "it isn't said what is asked for",
+    )
+    early = page.browser.run(
+        "return [document.querySelector('#stop').offsetParent === null, document.querySelector('h1').textContent]"
+    )
+    page.browser.until(
+        lambda: re.search(
+            r"still waiting, [5-7] s", page.browser.run("return document.getElementById('waiting').textContent")
+        ),
+        "the seconds aren't said",
+    )
     page.browser.click("#stop")
     page.browser.until(lambda: page.browser.text("main .fault") == "Stopped.", "it isn't stopped")
     said = page.browser.run("return document.getElementById('waiting').innerText")
@@ -26,14 +36,32 @@ def the_old_view_is_dimmed_under_its_own_name(page):
     page.planned(port=page.proxy.server_port)
     page.proxy.holds, page.proxy.held = 7, f"/t/plan-{page.made}"
     page.browser.named("nav a", "Object").click()
-    page.browser.until(lambda: page.browser.run("return document.getElementById('main').getAttribute('aria-busy')") == "true", "the view isn't dimmed")
-    there = page.browser.run("return [document.querySelector('h1').textContent, document.querySelector('nav [aria-current]').textContent, getComputedStyle(document.querySelector('main > *')).opacity]")
-    page.browser.until(lambda: page.browser.run("return !document.getElementById('waiting').hidden && !document.getElementById('stop').hidden"), "no Stop")
+    page.browser.until(
+        lambda: page.browser.run("return document.getElementById('main').getAttribute('aria-busy')") == "true",
+        "the view isn't dimmed",
+    )
+    there = page.browser.run(
+        "return [document.querySelector('h1').textContent, document.querySelector('nav [aria-current]').textContent,"
+        " getComputedStyle(document.querySelector('main > *')).opacity]"
+    )
+    page.browser.until(
+        lambda: page.browser.run(
+            "return !document.getElementById('waiting').hidden && !document.getElementById('stop').hidden"
+        ),
+        "no Stop",
+    )
     page.browser.run("document.getElementById('stop').click()")
-    page.browser.until(lambda: page.browser.run("return !document.getElementById('main').hasAttribute('aria-busy')"), "it isn't stopped")
+    page.browser.until(
+        lambda: page.browser.run("return !document.getElementById('main').hasAttribute('aria-busy')"),
+        "it isn't stopped",
+    )
     after = page.browser.run("return [document.querySelector('h1').textContent, location.hash.split('/')[2]]")
     page.proxy.holds = 0
-    return first(unlike(there[:2], ["Pools", "Pools"]), None if float(there[2]) < 0.6 else f"its opacity is {there[2]}", unlike(after, ["Pools", "pools"]))
+    return first(
+        unlike(there[:2], ["Pools", "Pools"]),
+        None if float(there[2]) < 0.6 else f"its opacity is {there[2]}",
+        unlike(after, ["Pools", "pools"]),
+    )
 
 
 def a_failed_get_is_no_change(page):
@@ -50,8 +78,10 @@ def a_failed_get_is_no_change(page):
 ASKS = """
 const done = arguments[arguments.length - 1], [tenant, count] = arguments;
 import("./service.js").then(({ ask }) => {
-    const control = new AbortController(), asked = Array.from({ length: count }, () => ask("Look", "GET", `/t/${tenant}`));
-    const began = performance.now(), stopped = ask("Look", "GET", `/t/${tenant}/maps/1`, undefined, control.signal).then(() => "answered", (why) => [why, performance.now() - began]);
+    const asked = Array.from({ length: count }, () => ask("Look", "GET", `/t/${tenant}`));
+    const control = new AbortController(), began = performance.now();
+    const stopped = ask("Look", "GET", `/t/${tenant}/maps/1`, undefined, control.signal)
+        .then(() => "answered", (why) => [why, performance.now() - began]);
     control.abort("stopped");
     Promise.all([stopped, ...asked]).then(([one, ...others]) => done([one, others.map((it) => it.status)]));
 });
@@ -70,8 +100,19 @@ def two_are_under_way_at_a_time(page):
     (why, after), others = page.browser.driver.execute_async_script(ASKS, tenant, 6)
     page.proxy.holds = 0
     asked = [it for it in page.browser.loaded() if "/t/" in it]
-    return first(unlike(page.proxy.most, 2, "under way:"), unlike(others, [200] * 6), unlike(why, "stopped"), None if after < 400 else f"it was stopped after {after:.0f} ms", unlike(len(asked), 6, "requests:"))
+    return first(
+        unlike(page.proxy.most, 2, "under way:"),
+        unlike(others, [200] * 6),
+        unlike(why, "stopped"),
+        None if after < 400 else f"it was stopped after {after:.0f} ms",
+        unlike(len(asked), 6, "requests:"),
+    )
 
 
 def cases():
-    return two_are_under_way_at_a_time, a_view_that_waits_says_so, the_old_view_is_dimmed_under_its_own_name, a_failed_get_is_no_change
+    return (
+        two_are_under_way_at_a_time,
+        a_view_that_waits_says_so,
+        the_old_view_is_dimmed_under_its_own_name,
+        a_failed_get_is_no_change,
+    )

@@ -15,7 +15,9 @@ USER, TENANT = "anna", "shop"
 def opened(program, folder):
     top = folder / "passwords"
     top.mkdir(mode=0o755)
-    with proxy.processes(program, top, 2) as servers, proxy.nginx(top, [it.port for it in servers]) as port, browser(top, "--ignore-certificate-errors") as one:
+    with proxy.processes(program, top, 2) as servers, proxy.nginx(top, [it.port for it in servers]) as port, browser(
+        top, "--ignore-certificate-errors"
+    ) as one:
         one.driver.execute_cdp_cmd("Network.enable", {})
         yield one, f"https://localhost:{port}/page/"
 
