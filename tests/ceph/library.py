@@ -19,7 +19,9 @@ class Failed(Exception):
 def run(words, given=None):
     """What a program writes on standard output and on standard error."""
     try:
-        ran = subprocess.run([str(it) for it in words], input=given, stdout=subprocess.PIPE, stderr=subprocess.PIPE, text=True)
+        ran = subprocess.run(
+            [str(it) for it in words], input=given, stdout=subprocess.PIPE, stderr=subprocess.PIPE, text=True
+        )
     except OSError as error:
         raise Failed(f"{words[0]}: {error.strerror}") from None
     if ran.returncode != 0:
@@ -66,7 +68,11 @@ def lines_of(text, reweights=()):
     with pairs of device and reweight."""
     it = read(text)
     types = {of["name"]: of["type_id"] for of in it["types"]}
-    lines = ["map text", "tunables " + " ".join(str(it["tunables"][name]) for name in TUNABLES), f"devices {max(of['id'] for of in it['devices']) + 1}"]
+    lines = [
+        "map text",
+        "tunables " + " ".join(str(it["tunables"][name]) for name in TUNABLES),
+        f"devices {max(of['id'] for of in it['devices']) + 1}",
+    ]
     for bucket in it["buckets"]:
         items = "".join(f" {of['id']}:{of['weight']}" for of in sorted(bucket["items"], key=lambda of: of["pos"]))
         lines.append(f"bucket {bucket['id']} {bucket['type_id']} {bucket['alg']}{items}")

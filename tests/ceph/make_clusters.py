@@ -8,6 +8,13 @@ import random
 from make_maps import LEGACY, ONE, Map, chosen, even, hosts_of, leaves, tree_of, uneven
 
 REPLICATED, ERASURE = "replicated", "erasure"
+OF_PARTS = ("set_chooseleaf_tries 5", "set_choose_tries 100", "take -1", leaves("indep"), "emit")
+ONE_LEVEL = (
+    ("hosts", 0, REPLICATED, ("take -1", leaves("firstn"), "emit")),
+    ("hosts-of-parts", 1, ERASURE, OF_PARTS),
+    ("devices", 2, REPLICATED, ("take -1", chosen("firstn", 0, "osd"), "emit")),
+    ("devices-of-parts", 3, ERASURE, ("take -1", chosen("indep", 0, "osd"), "emit")),
+)
 OBJECTS = (
     "a", "b", "rbd_data.1f3a6b8b4567.0000000000000a40", "10000000000.00000000", "with a blank", "a/b\\c\"d'e", "0", "-",
     "ä, 名前, 🦀", "12 bytes of..", "elevenbytes", "a" * 261, "".join(chr(33 + i % 90) for i in range(1024)),
@@ -45,13 +52,20 @@ class Cluster(Map):
     def rules(self):
         middle = self.middle
         return (
-            ("hosts", 0, REPLICATED, ("take -1", leaves("firstn"), "emit")),
-            ("hosts-of-parts", 1, ERASURE, ("set_chooseleaf_tries 5", "set_choose_tries 100", "take -1", leaves("indep"), "emit")),
-            ("devices", 2, REPLICATED, ("take -1", chosen("firstn", 0, "osd"), "emit")),
-            ("devices-of-parts", 3, ERASURE, ("take -1", chosen("indep", 0, "osd"), "emit")),
+            *ONE_LEVEL,
             ("two-levels", 4, REPLICATED, ("take -1", chosen("firstn", 3, middle), chosen("firstn", 2, "osd"), "emit")),
-            ("two-levels-of-parts", 5, ERASURE, ("take -1", chosen("indep", 4, middle), chosen("indep", 2, "osd"), "emit")),
-            ("two-takes", 6, REPLICATED, ("take -1", leaves("firstn", 1), "emit", "take -1", leaves("firstn", -1), "emit")),
+            (
+                "two-levels-of-parts",
+                5,
+                ERASURE,
+                ("take -1", chosen("indep", 4, middle), chosen("indep", 2, "osd"), "emit"),
+            ),
+            (
+                "two-takes",
+                6,
+                REPLICATED,
+                ("take -1", leaves("firstn", 1), "emit", "take -1", leaves("firstn", -1), "emit"),
+            ),
             ("one-device-first", 200, REPLICATED, ("take 0", "emit", "take -1", leaves("firstn", -1), "emit")),
         )
 
@@ -80,5 +94,11 @@ def all_clusters():
     yield tree_of(Cluster("mixed", "rack"), ("tree", "list", "uniform"), racks=6, weight=uneven)
     yield hosts_of(Cluster("hosts-alone", "host", LEGACY), ("tree", "list"), hosts=11, devices=5, weight=uneven)
     yield tree_of(Cluster("straw2", "rack"), ["straw2"] * 3, weight=uneven)
-    yield tree_of(Cluster("straw2-and-others", "rack"), ("straw2", "tree", "straw2"), racks=5, devices=5, weight=lambda d: 0 if d % 11 == 3 else uneven(d))
+    yield tree_of(
+        Cluster("straw2-and-others", "rack"),
+        ("straw2", "tree", "straw2"),
+        racks=5,
+        devices=5,
+        weight=lambda d: 0 if d % 11 == 3 else uneven(d),
+    )
     yield hosts_of(Cluster("few-hosts", "host"), ("uniform", "tree"), hosts=3, devices=6, weight=uneven)

@@ -61,8 +61,9 @@ def of_pool(template, pool):
     """An encoded pool: the template with these parts."""
     found = bytearray(template)
     parts = (
-        ("B", TYPE, TYPES[pool["kind"]]), ("B", SIZE, pool["size"]), ("B", RULE, pool["rule"]), ("I", PG_NUM, pool["pg_num"]),
-        ("I", PGP_NUM, pool["pgp_num"]), ("Q", FLAGS, HASHPSPOOL if pool["hashpspool"] else 0), ("B", MIN_SIZE, pool.get("min_size", 1)),
+        ("B", TYPE, TYPES[pool["kind"]]), ("B", SIZE, pool["size"]), ("B", RULE, pool["rule"]),
+        ("I", PG_NUM, pool["pg_num"]), ("I", PGP_NUM, pool["pgp_num"]),
+        ("Q", FLAGS, HASHPSPOOL if pool["hashpspool"] else 0), ("B", MIN_SIZE, pool.get("min_size", 1)),
     )  # fmt: skip
     for form, at, value in parts:
         struct.pack_into("<" + form, found, 6 + at, value)
@@ -82,7 +83,12 @@ def of_pools(template, pools):
 
 def of_states(states):
     """The encoded states of devices, and their reweights."""
-    numbers = [len(states), *(EXISTS | (UP if up else 0) for _, up in states), len(states), *(reweight for reweight, _ in states)]
+    numbers = [
+        len(states),
+        *(EXISTS | (UP if up else 0) for _, up in states),
+        len(states),
+        *(reweight for reweight, _ in states),
+    ]
     return struct.pack(f"<{len(numbers)}I", *numbers)
 
 
@@ -136,7 +142,13 @@ def with_affinities(data, affinities, devices):
     client = data[12:client_end]
     # before the CRUSH map, which begins with its length and a number of its own, are the lists of
     # pg_temp, of primary_temp and of affinities
-    places = [at for at in range(16, len(client) - 4) if client[at : at + 4] == CRUSH_MAGIC and client[at - 16 : at - 4] == bytes(12) and LEAST_MAP < number(client, at - 4) <= len(client) - at]
+    places = [
+        at
+        for at in range(16, len(client) - 4)
+        if client[at : at + 4] == CRUSH_MAGIC
+        and client[at - 16 : at - 4] == bytes(12)
+        and LEAST_MAP < number(client, at - 4) <= len(client) - at
+    ]
     if len(places) != 1:
         raise library.Failed("osdmaptool's map is of another form, or has affinities")
     place = places[0] - 8
@@ -196,11 +208,16 @@ class OsdMap:
         """What osdmaptool dumps of the map, which has to be what was wanted."""
         text = self.ask("--dump", "json")
         said = json.loads(text)
-        if [{**self.pool_said(of), **{it: of[it] for it in ("min_size",) if it in pool}} for of, pool in zip(said["pools"], self.pools)] != self.pools:
+        if [
+            {**self.pool_said(of), **{it: of[it] for it in ("min_size",) if it in pool}}
+            for of, pool in zip(said["pools"], self.pools)
+        ] != self.pools:
             raise library.Failed(f"osdmaptool reads other pools than {self.pools}")
         if [self.state_said(of) for of in said["osds"]] != [(of, *it) for of, it in enumerate(self.states)]:
             raise library.Failed(f"osdmaptool reads other states than {self.states}")
-        if {of["osd"]: round(of["primary_affinity"] * 65536) for of in said["osds"] if of["primary_affinity"] != 1} != self.affinities:
+        if {
+            of["osd"]: round(of["primary_affinity"] * 65536) for of in said["osds"] if of["primary_affinity"] != 1
+        } != self.affinities:
             raise library.Failed(f"osdmaptool reads other affinities than {self.affinities}")
         items = {it["pgid"]: [(of["from"], of["to"]) for of in it["mappings"]] for it in said["pg_upmap_items"]}
         if items != {f"{pool}.{group:x}": list(pairs) for (pool, group), pairs in self.upmaps.items()}:
@@ -213,8 +230,9 @@ class OsdMap:
     @staticmethod
     def pool_said(of):
         return {
-            "id": of["pool"], "kind": {number: kind for kind, number in TYPES.items()}[of["type"]], "size": of["size"], "rule": of["crush_rule"],
-            "pg_num": of["pg_num"], "pgp_num": of["pg_placement_num"], "hashpspool": "hashpspool" in of["flags_names"], "name": of["pool_name"],
+            "id": of["pool"], "kind": {number: kind for kind, number in TYPES.items()}[of["type"]], "size": of["size"],
+            "rule": of["crush_rule"], "pg_num": of["pg_num"], "pgp_num": of["pg_placement_num"],
+            "hashpspool": "hashpspool" in of["flags_names"], "name": of["pool_name"],
         }  # fmt: skip
 
     @staticmethod
@@ -226,7 +244,10 @@ class OsdMap:
         states of devices for this once."""
         line = re.compile(r"(\d+)\.([0-9a-f]+) raw \(\[([^]]*)\], p-?\d+\) up \(\[([^]]*)\], p(-?\d+)\) acting .*")
         found = filter(None, map(line.fullmatch, self.ask(*options, "--test-map-pgs-dump-all").splitlines()))
-        return {(int(it[1]), int(it[2], 16)): (slots(it[3]), slots(it[4]), None if it[5] == "-1" else int(it[5])) for it in found}
+        return {
+            (int(it[1]), int(it[2], 16)): (slots(it[3]), slots(it[4]), None if it[5] == "-1" else int(it[5]))
+            for it in found
+        }
 
     def object_lies(self, pool, name):
         """The group of the object with a name, and the devices that are up in it."""

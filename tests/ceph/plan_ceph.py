@@ -38,7 +38,11 @@ class Ceph:
     def __init__(self, cluster, folder):
         self.cluster, self.folder, self.number = cluster, pathlib.Path(folder), 0
         self.there = [it for it in range(cluster.map.devices) if it not in cluster.removed]
-        self.start = State(compiled(cluster, folder), [state if it in self.there else (0, False) for it, state in enumerate(cluster.states)], {})
+        self.start = State(
+            compiled(cluster, folder),
+            [state if it in self.there else (0, False) for it, state in enumerate(cluster.states)],
+            {},
+        )
         self.draw_upmaps()
         self.write_dumps()
         self.before = self.placements(self.start)
@@ -51,7 +55,9 @@ class Ceph:
         for group in drawn.sample(sorted(before), min(self.cluster.upmaps, len(before))):
             raw = [it for it in before[group][0] if it is not None]
             for old in drawn.sample(raw, min(len(raw), drawn.choice((1, 1, 2)))):
-                self.start.upmaps.setdefault(group, []).append((old, drawn.choice([it for it in self.there if it != old])))
+                self.start.upmaps.setdefault(group, []).append(
+                    (old, drawn.choice([it for it in self.there if it != old]))
+                )
         self.asked(self.start)
 
     def placements(self, state, clean=True):
@@ -62,7 +68,15 @@ class Ceph:
         """The same by pool and group. Upmap items that the monitors don't keep are removed from the
         state first."""
         with tempfile.TemporaryDirectory() as folder:
-            map_ = OsdMap(folder, None, self.cluster.pools, state.states, state.crush, read=False, affinities=self.cluster.affinities)
+            map_ = OsdMap(
+                folder,
+                None,
+                self.cluster.pools,
+                state.states,
+                state.crush,
+                read=False,
+                affinities=self.cluster.affinities,
+            )
             while True:
                 map_.set_upmaps(state.upmaps, read=False)
                 if not (clean and state.upmaps and self.removed_some(map_, state)):
@@ -100,7 +114,17 @@ class Ceph:
         """Writes where the groups of pools lie that can't be computed, as a cluster says it. Ceph
         places nothing of a pool for which it finds no rule."""
         none = lambda up: [NONE if it is None else it for it in up]
-        rows = [{"pgid": at, "state": "active+clean", "up": none(up), "up_primary": -1 if primary is None else primary, "acting": none(up), "acting_primary": -1 if primary is None else primary} for at, (_, up, primary) in self.before.items()]
+        rows = [
+            {
+                "pgid": at,
+                "state": "active+clean",
+                "up": none(up),
+                "up_primary": -1 if primary is None else primary,
+                "acting": none(up),
+                "acting_primary": -1 if primary is None else primary,
+            }
+            for at, (_, up, primary) in self.before.items()
+        ]
         (self.dumps / "pgs.json").write_text(json.dumps({"pg_stats": rows}))
 
     def edited(self, crush, *options):
@@ -136,13 +160,20 @@ class Ceph:
         """Draws what is asked, and what Ceph answers to it."""
         cluster, drawn = self.cluster, self.cluster.drawn
         if cluster.ruleless:
-            return {"pools": cluster.pools, "before": self.before, "ruleless": cluster.ruleless, "maps": dict(self.changes()) if self.alg("straw") else {}}
+            return {
+                "pools": cluster.pools,
+                "before": self.before,
+                "ruleless": cluster.ruleless,
+                "maps": dict(self.changes()) if self.alg("straw") else {},
+            }
         drains = cluster.drains or [[drawn.choice(cluster.names(HOST))], drawn.sample(cluster.names(OSD), 2)]
         if not cluster.drains and len(cluster.names(RACK)) > 2:
             drains.append([drawn.choice(cluster.names(RACK))])
         return {
-            "pools": cluster.pools, "hosts": cluster.names(HOST), "types": ["host", "rack"] if cluster.names(RACK) else ["host"], "before": self.before,
-            "drains": [self.drain(names) for names in drains], "upmap": self.upmap(), "maps": {**dict(self.maps()), **dict(self.changes())}, "locate": self.locate(),
+            "pools": cluster.pools, "hosts": cluster.names(HOST),
+            "types": ["host", "rack"] if cluster.names(RACK) else ["host"], "before": self.before,
+            "drains": [self.drain(names) for names in drains], "upmap": self.upmap(),
+            "maps": {**dict(self.maps()), **dict(self.changes())}, "locate": self.locate(),
         }  # fmt: skip
 
     def drain(self, names):
@@ -153,7 +184,14 @@ class Ceph:
         down, out = (self.placements(self.with_states(devices, reweight, up=False)) for reweight in (None, 0))
         # crushtool writes no tree bucket that it has emptied
         purge = None if "tree" in self.cluster.emptied(devices) else self.purge(devices, drained, after)
-        return {"names": names, "devices": devices, "after": elsewhere(self.before, after), "down": elsewhere(self.before, down), "out": elsewhere(self.before, out), "purge": purge}
+        return {
+            "names": names,
+            "devices": devices,
+            "after": elsewhere(self.before, after),
+            "down": elsewhere(self.before, down),
+            "out": elsewhere(self.before, out),
+            "purge": purge,
+        }
 
     def purge(self, devices, drained, after):
         """The devices are still in the OSD map, out, as crushplan has them: a rule that takes
@@ -162,7 +200,11 @@ class Ceph:
         weightless = State(self.weightless(self.start.crush, devices), self.start.states, self.start.upmaps)
         first = self.placements(weightless)
         then = self.placements(State(self.without(weightless.crush, devices), weightless.states, weightless.upmaps))
-        return {"purge": elsewhere(after, purged), "weight_first": elsewhere(self.before, first), "then_purge": elsewhere(first, then)}
+        return {
+            "purge": elsewhere(after, purged),
+            "weight_first": elsewhere(self.before, first),
+            "then_purge": elsewhere(first, then),
+        }
 
     def devices_below(self, name):
         by_name = {self.cluster.map.item_name(id_): items for id_, _, _, items in self.cluster.map.buckets}
@@ -176,7 +218,11 @@ class Ceph:
         some break the rule and some have no effect."""
         drawn, wanted, asked, lines = self.cluster.drawn, dict(self.start.upmaps), [], []
         for id_ in drawn.sample(sorted(self.before), min(12, len(self.before))):
-            at, raw, pairs = (int(id_.split(".")[0]), int(id_.split(".")[1], 16)), [it for it in self.before[id_][0] if it is not None], []
+            at, raw, pairs = (
+                (int(id_.split(".")[0]), int(id_.split(".")[1], 16)),
+                [it for it in self.before[id_][0] if it is not None],
+                [],
+            )
             for _ in range(drawn.choice((0, 1, 1, 2))):
                 old = drawn.choice(raw) if raw and drawn.random() < 0.9 else drawn.choice(self.there)
                 pairs.append((old, drawn.choice([it for it in self.there if it != old])))
@@ -190,7 +236,12 @@ class Ceph:
         after = self.placements(State(self.start.crush, self.start.states, wanted), clean=False)
         kept = State(self.start.crush, self.start.states, wanted)
         self.placements(kept)
-        return {"after": {at: after[at] for at in asked}, "kept": {group_id(at): [list(it) for it in pairs] for at, pairs in kept.upmaps.items() if group_id(at) in asked}}
+        return {
+            "after": {at: after[at] for at in asked},
+            "kept": {
+                group_id(at): [list(it) for it in pairs] for at, pairs in kept.upmaps.items() if group_id(at) in asked
+            },
+        }
 
     def maps(self):
         """Changed maps, by their files: a dump with other weights; and its text, with weights as
@@ -203,7 +254,9 @@ class Ceph:
         if not self.cluster.removed:
             library.run(["crushtool", "-d", crush, "-o", self.dumps / "new.txt"])
             library.run(["crushtool", "-c", self.dumps / "new.txt", "-o", self.folder / "rounded.bin"])
-            yield "new.txt", elsewhere(self.before, self.placements(State(self.folder / "rounded.bin", self.start.states, self.start.upmaps)))
+            yield "new.txt", elsewhere(
+                self.before, self.placements(State(self.folder / "rounded.bin", self.start.states, self.start.upmaps))
+            )
 
     def alg(self, *algs):
         return any(alg in algs for _, _, alg, _ in self.cluster.map.buckets)
@@ -223,7 +276,10 @@ class Ceph:
             host = drawn.choice(self.cluster.names(HOST))
             classes = {map_.class_of[it] for it in self.devices_below(host)}
             class_ = drawn.choice(sorted({"hdd", "ssd"} - classes) or ["hdd", "ssd"])
-            yield self.changed("class.json", self.rebuilt(self.edited(self.start.crush, "--reclassify", "--set-subtree-class", host, class_)))
+            yield self.changed(
+                "class.json",
+                self.rebuilt(self.edited(self.start.crush, "--reclassify", "--set-subtree-class", host, class_)),
+            )
 
     def rebuilt(self, crush):
         """The map with the trees of classes made anew, as the monitors do after most changes."""
@@ -235,7 +291,17 @@ class Ceph:
         place = [*(("rack", drawn.choice(racks)) if racks else ()), "root", self.cluster.map.item_name(-1)]
         for device in range(self.cluster.map.devices, self.cluster.map.devices + 2):
             weight = f"{drawn.choice((0.5, 1, 2.7285)):.5f}"
-            crush = self.edited(crush, "--add-item", device, weight, f"osd.{device}", "--loc", "host", "host-more", *(word for at in range(0, len(place), 2) for word in ("--loc", *place[at : at + 2])))
+            crush = self.edited(
+                crush,
+                "--add-item",
+                device,
+                weight,
+                f"osd.{device}",
+                "--loc",
+                "host",
+                "host-more",
+                *(word for at in range(0, len(place), 2) for word in ("--loc", *place[at : at + 2])),
+            )
         if hasattr(self.cluster.map, "class_of"):
             crush = self.rebuilt(self.edited(crush, "--reclassify", "--set-subtree-class", "host-more", "hdd"))
         return crush
@@ -250,8 +316,18 @@ class Ceph:
         """Where objects of one pool lie."""
         pool = self.cluster.drawn.choice(self.cluster.pools)
         with tempfile.TemporaryDirectory() as folder:
-            map_ = OsdMap(folder, None, self.cluster.pools, self.start.states, self.start.crush, affinities=self.cluster.affinities)
+            map_ = OsdMap(
+                folder,
+                None,
+                self.cluster.pools,
+                self.start.states,
+                self.start.crush,
+                affinities=self.cluster.affinities,
+            )
             if self.start.upmaps:
                 map_.set_upmaps(self.start.upmaps)
             found = [(name, *map_.object_lies(pool["id"], name)) for name in OBJECTS]
-        return {"pool": pool["name"], "objects": [[name, group_id((pool["id"], group)), up] for name, group, up in found]}
+        return {
+            "pool": pool["name"],
+            "objects": [[name, group_id((pool["id"], group)), up] for name, group, up in found],
+        }

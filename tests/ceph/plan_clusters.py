@@ -7,10 +7,10 @@ import pathlib
 import random
 
 import library
+from make_clusters import ERASURE, ONE_LEVEL, REPLICATED
 from make_maps import HOST, LEGACY, ONE, OSD, RACK, Map, chosen, hosts_of, leaves, tree_of
 
 KINDS = ("list", "tree", "uniform", "straw2", "straw2")
-REPLICATED, ERASURE = "replicated", "erasure"
 
 
 class PlanMap(Map):
@@ -18,12 +18,14 @@ class PlanMap(Map):
 
     def rules(self):
         return (
-            ("hosts", 0, REPLICATED, ("take -1", leaves("firstn"), "emit")),
-            ("hosts-of-parts", 1, ERASURE, ("set_chooseleaf_tries 5", "set_choose_tries 100", "take -1", leaves("indep"), "emit")),
-            ("devices", 2, REPLICATED, ("take -1", chosen("firstn", 0, "osd"), "emit")),
-            ("devices-of-parts", 3, ERASURE, ("take -1", chosen("indep", 0, "osd"), "emit")),
+            *ONE_LEVEL,
             ("two-levels", 4, REPLICATED, ("take -1", chosen("firstn", 2, "host"), chosen("firstn", 2, "osd"), "emit")),
-            ("two-takes", 5, REPLICATED, ("take -1", leaves("firstn", 1), "emit", "take -1", leaves("firstn", -1), "emit")),
+            (
+                "two-takes",
+                5,
+                REPLICATED,
+                ("take -1", leaves("firstn", 1), "emit", "take -1", leaves("firstn", -1), "emit"),
+            ),
             ("racks", 6, REPLICATED, ("take -1", leaves("firstn", 0, "rack"), "emit")),
             ("one-device-first", 7, REPLICATED, ("take 0", "emit", "take -1", leaves("firstn", -1), "emit")),
         )
@@ -35,7 +37,8 @@ class PlanMap(Map):
 def pool(id_, rule, size, pg_num, *, kind=None, pgp_num=None, hashpspool=True, min_size=None):
     """A pool; its kind is that of its rule, which is one of PlanMap where no kind is given."""
     return {
-        "id": id_, "kind": kind or (ERASURE if rule in (1, 3) else REPLICATED), "size": size, "rule": rule, "pg_num": pg_num, "pgp_num": pgp_num or pg_num, "hashpspool": hashpspool, "name": f"pool-{id_}",
+        "id": id_, "kind": kind or (ERASURE if rule in (1, 3) else REPLICATED), "size": size, "rule": rule,
+        "pg_num": pg_num, "pgp_num": pgp_num or pg_num, "hashpspool": hashpspool, "name": f"pool-{id_}",
         "min_size": min_size or max(1, size - 1),
     }  # fmt: skip
 
@@ -45,8 +48,16 @@ class Cluster:
     `upmaps` how many groups get upmap items, `affinities` the primary affinities in 65536ths that
     aren't 1, by device; `ruleless` are pools that can't be computed."""
 
-    def __init__(self, name, map_, pools, *, states=None, removed=(), upmaps=0, drains=None, affinities=None, ruleless=(), seed=0):
-        self.name, self.map, self.pools, self.removed, self.upmaps = name, map_, sorted(pools, key=lambda it: it["id"]), removed, upmaps
+    def __init__(
+        self, name, map_, pools, *, states=None, removed=(), upmaps=0, drains=None, affinities=None, ruleless=(), seed=0
+    ):
+        self.name, self.map, self.pools, self.removed, self.upmaps = (
+            name,
+            map_,
+            sorted(pools, key=lambda it: it["id"]),
+            removed,
+            upmaps,
+        )
         self.drawn = random.Random(f"{name} {seed}")
         self.states = states or [(ONE, True)] * map_.devices
         self.drains, self.affinities, self.ruleless = drains, affinities or {}, ruleless
@@ -55,14 +66,22 @@ class Cluster:
         """Names of the buckets of a level, or of the devices that are still there."""
         if level == OSD:
             return [f"osd.{it}" for it in range(self.map.devices) if it not in self.removed]
-        return [self.map.item_name(id_) for id_, type_, _, items in self.map.buckets if type_ == level and any(self.stays(it) for it, _ in items)]
+        return [
+            self.map.item_name(id_)
+            for id_, type_, _, items in self.map.buckets
+            if type_ == level and any(self.stays(it) for it, _ in items)
+        ]
 
     def emptied(self, devices):
         """The kinds of the buckets that lose their last device. crushtool of release 16 frees the
         items of such a list, tree or uniform bucket twice; of a tree bucket it then writes what
         stands in that memory."""
         lost = {*self.removed, *devices}
-        return {kind for _, _, kind, items in self.map.buckets if any(it in devices for it, _ in items) and all(it in lost for it, _ in items)}
+        return {
+            kind
+            for _, _, kind, items in self.map.buckets
+            if any(it in devices for it, _ in items) and all(it in lost for it, _ in items)
+        }
 
     def stays(self, item):
         if item >= 0:
@@ -76,37 +95,112 @@ def uneven(drawn):
 
 
 def mixed_states(drawn, devices, share=0.3):
-    return [(drawn.choice((0, ONE // 2, 1, ONE - 1, drawn.randrange(ONE))) if drawn.random() < share else ONE, drawn.random() > share / 3) for _ in range(devices)]
+    return [
+        (
+            drawn.choice((0, ONE // 2, 1, ONE - 1, drawn.randrange(ONE))) if drawn.random() < share else ONE,
+            drawn.random() > share / 3,
+        )
+        for _ in range(devices)
+    ]
 
 
 def named_clusters():
     drawn = random.Random("crushplan")
-    basic = lambda: [pool(1, 0, 3, 128), pool(2, 1, 4, 64, min_size=3), pool(5, 2, 2, 100, pgp_num=37), pool(7, 4, 4, 33, hashpspool=False)]
+    basic = lambda: [
+        pool(1, 0, 3, 128),
+        pool(2, 1, 4, 64, min_size=3),
+        pool(5, 2, 2, 100, pgp_num=37),
+        pool(7, 4, 4, 33, hashpspool=False),
+    ]
     yield Cluster("lists", tree_of(PlanMap("lists"), ["list"] * 3, weight=uneven(drawn)), basic())
     yield Cluster("trees", tree_of(PlanMap("trees"), ["tree"] * 3, weight=uneven(drawn)), basic(), upmaps=20)
-    yield Cluster("uniforms", tree_of(PlanMap("uniforms"), ["uniform"] * 3, racks=5, hosts=3, devices=4), basic(), upmaps=10)
+    yield Cluster(
+        "uniforms", tree_of(PlanMap("uniforms"), ["uniform"] * 3, racks=5, hosts=3, devices=4), basic(), upmaps=10
+    )
     yield Cluster("mixed", tree_of(PlanMap("mixed"), ("tree", "list", "uniform"), racks=6), basic())
-    yield Cluster("legacy", hosts_of(PlanMap("legacy", LEGACY), ("list", "tree"), hosts=9, devices=4, weight=uneven(drawn)), [pool(1, 0, 3, 256), pool(2, 5, 3, 64)])
+    yield Cluster(
+        "legacy",
+        hosts_of(PlanMap("legacy", LEGACY), ("list", "tree"), hosts=9, devices=4, weight=uneven(drawn)),
+        [pool(1, 0, 3, 256), pool(2, 5, 3, 64)],
+    )
     map_ = tree_of(PlanMap("reweighted"), ("list", "tree", "tree"), weight=uneven(drawn))
     yield Cluster("reweighted", map_, basic(), states=mixed_states(drawn, map_.devices), upmaps=20)
     map_ = tree_of(PlanMap("holes"), ["tree"] * 3, racks=3, hosts=4, devices=5, weight=uneven(drawn))
     yield Cluster("holes", map_, basic(), removed=(0, 1, 7, 8, 23, 31, 33, 59), upmaps=10)
     map_ = tree_of(PlanMap("holes-of-one"), ("list", "tree", "tree"), racks=3, hosts=4, devices=5)
     yield Cluster("holes-of-one", map_, basic(), removed=(11,))
-    yield Cluster("four-racks", tree_of(PlanMap("four-racks"), ["tree"] * 3, racks=4, hosts=5, devices=3), [pool(3, 6, 4, 512, min_size=2), pool(4, 0, 3, 128)], drains=[["rack7"], ["rack13", "osd.3"]])
-    yield Cluster("few-hosts", hosts_of(PlanMap("few-hosts"), ("tree", "list"), hosts=3, devices=4, weight=uneven(drawn)), [pool(1, 0, 3, 128), pool(2, 1, 3, 64), pool(3, 0, 4, 32, min_size=2)], upmaps=10)
-    yield Cluster("device-taken", hosts_of(PlanMap("device-taken"), ("list", "tree"), hosts=6, devices=4, weight=uneven(drawn)), [pool(1, 7, 3, 64), pool(2, 0, 3, 64)], upmaps=8, drains=[["osd.0"], ["host2"]])
+    yield Cluster(
+        "four-racks",
+        tree_of(PlanMap("four-racks"), ["tree"] * 3, racks=4, hosts=5, devices=3),
+        [pool(3, 6, 4, 512, min_size=2), pool(4, 0, 3, 128)],
+        drains=[["rack7"], ["rack13", "osd.3"]],
+    )
+    yield Cluster(
+        "few-hosts",
+        hosts_of(PlanMap("few-hosts"), ("tree", "list"), hosts=3, devices=4, weight=uneven(drawn)),
+        [pool(1, 0, 3, 128), pool(2, 1, 3, 64), pool(3, 0, 4, 32, min_size=2)],
+        upmaps=10,
+    )
+    yield Cluster(
+        "device-taken",
+        hosts_of(PlanMap("device-taken"), ("list", "tree"), hosts=6, devices=4, weight=uneven(drawn)),
+        [pool(1, 7, 3, 64), pool(2, 0, 3, 64)],
+        upmaps=8,
+        drains=[["osd.0"], ["host2"]],
+    )
     map_ = tree_of(PlanMap("many-pools"), ("tree", "tree", "list"), racks=5, hosts=4, devices=4, weight=uneven(drawn))
-    yield Cluster("many-pools", map_, [pool(id_, rule, size, pg_num) for id_, (rule, size, pg_num) in enumerate([(0, 3, 64), (1, 6, 32), (2, 3, 17), (3, 5, 48), (4, 4, 64), (5, 3, 31), (6, 3, 64), (0, 2, 128), (1, 3, 8), (0, 5, 16)], 1)], states=mixed_states(drawn, map_.devices, 0.1), upmaps=30)
+    yield Cluster(
+        "many-pools",
+        map_,
+        [
+            pool(id_, rule, size, pg_num)
+            for id_, (rule, size, pg_num) in enumerate(
+                [
+                    (0, 3, 64),
+                    (1, 6, 32),
+                    (2, 3, 17),
+                    (3, 5, 48),
+                    (4, 4, 64),
+                    (5, 3, 31),
+                    (6, 3, 64),
+                    (0, 2, 128),
+                    (1, 3, 8),
+                    (0, 5, 16),
+                ],
+                1,
+            )
+        ],
+        states=mixed_states(drawn, map_.devices, 0.1),
+        upmaps=30,
+    )
     map_ = hosts_of(PlanMap("thousand"), ("tree", "tree"), hosts=60, devices=17, weight=uneven(drawn))
-    yield Cluster("thousand", map_, [pool(1, 0, 3, 2048), pool(2, 1, 6, 512)], states=mixed_states(drawn, map_.devices, 0.02), removed=(40, 41, 500), upmaps=400)
+    yield Cluster(
+        "thousand",
+        map_,
+        [pool(1, 0, 3, 2048), pool(2, 1, 6, 512)],
+        states=mixed_states(drawn, map_.devices, 0.02),
+        removed=(40, 41, 500),
+        upmaps=400,
+    )
     map_ = tree_of(PlanMap("straw2"), ["straw2"] * 3, racks=4, hosts=4, devices=4, weight=uneven(drawn))
-    yield Cluster("straw2", map_, [*basic(), pool(9, 6, 3, 64)], states=mixed_states(drawn, map_.devices), removed=(5, 17), upmaps=30)
+    yield Cluster(
+        "straw2",
+        map_,
+        [*basic(), pool(9, 6, 3, 64)],
+        states=mixed_states(drawn, map_.devices),
+        removed=(5, 17),
+        upmaps=30,
+    )
     # a uniform bucket weighs 0 where crushtool has removed a device: once one of the last host
     # weighs 0, all together do, and Ceph then counts no weight as 0
     map_ = hosts_of(PlanMap("weightless"), ("uniform", "uniform"), hosts=4, devices=3)
     yield Cluster("weightless", map_, [pool(1, 0, 1, 64)], removed=(1, 4, 7), upmaps=40, drains=[["osd.10"], ["host2"]])
-    yield Cluster("straw2-and-others", tree_of(PlanMap("straw2-and-others"), ("straw2", "list", "straw2"), racks=5, hosts=3, devices=5), basic(), upmaps=10)
+    yield Cluster(
+        "straw2-and-others",
+        tree_of(PlanMap("straw2-and-others"), ("straw2", "list", "straw2"), racks=5, hosts=3, devices=5),
+        basic(),
+        upmaps=10,
+    )
 
 
 def random_cluster(seed, number):
@@ -131,12 +225,24 @@ def random_cluster(seed, number):
     pools = []
     for id_ in sorted(drawn.sample(range(1, 40), drawn.randint(1, 4))):
         size, pg_num = drawn.randint(1, 6), drawn.choice((1, 7, 16, 32, 60, 128))
-        pools.append(pool(id_, drawn.choice(usable), size, pg_num, pgp_num=drawn.randint(1, pg_num), hashpspool=drawn.random() < 0.8, min_size=drawn.randint(1, size)))
+        pools.append(
+            pool(
+                id_,
+                drawn.choice(usable),
+                size,
+                pg_num,
+                pgp_num=drawn.randint(1, pg_num),
+                hashpspool=drawn.random() < 0.8,
+                min_size=drawn.randint(1, size),
+            )
+        )
     # never the last device of a bucket, nor one that a rule takes by name
     spare = [device for _, _, _, items in map_.buckets for device, _ in items[1:] if device >= 0]
     removed = drawn.sample(spare, min(drawn.randint(0, 4), len(spare))) if drawn.random() < 0.6 else ()
     states = mixed_states(drawn, map_.devices, drawn.choice((0, 0, 0.1, 0.3)))
-    return Cluster(map_.name, map_, pools, states=states, removed=tuple(removed), upmaps=drawn.choice((0, 0, 5, 25)), seed=seed)
+    return Cluster(
+        map_.name, map_, pools, states=states, removed=tuple(removed), upmaps=drawn.choice((0, 0, 5, 25)), seed=seed
+    )
 
 
 def grouped(map_, drawn, kind, below):

@@ -31,13 +31,25 @@ PROFILE = ["k=2", "m=2", "plugin=jerasure", "technique=reed_sol_van"]
 POOLS = (
     {"pool": "even", "pg_num": 32, "pgp_num": 32, "pool_type": "replicated", "rule": "hosts", "size": 3},
     {"pool": "racks", "pg_num": 16, "pgp_num": 16, "pool_type": "replicated", "rule": "racks", "size": 3},
-    {"pool": "parts", "pg_num": 25, "pgp_num": 25, "pool_type": "erasure", "rule": "hosts-of-parts", "erasure_code_profile": "two-and-two"},
+    {
+        "pool": "parts",
+        "pg_num": 25,
+        "pgp_num": 25,
+        "pool_type": "erasure",
+        "rule": "hosts-of-parts",
+        "erasure_code_profile": "two-and-two",
+    },
     {"pool": "pairs", "pg_num": 24, "pgp_num": 24, "pool_type": "replicated", "rule": "racks-then-hosts", "size": 4},
 )
 # of Ceph's own maps: each rule's type and class, by 'osd crush rule create-replicated' and, of the
 # erasure pool, 'create-erasure'. The balancer's mode crush-compat wants no device below two rules'
 # roots: there the rule over racks has a class too
-OWN_RULES = {"hosts": ("host", "hdd"), "racks": ("rack", None), "hosts-of-parts": ("host", "hdd"), "devices": ("osd", "ssd")}
+OWN_RULES = {
+    "hosts": ("host", "hdd"),
+    "racks": ("rack", None),
+    "hosts-of-parts": ("host", "hdd"),
+    "devices": ("osd", "ssd"),
+}
 OWN_POOLS = (*POOLS[:3], {**POOLS[3], "rule": "devices", "size": 3})
 LARGE_POOLS = {"even": 512, "racks": 256, "parts": 250, "pairs": 518}  # the numbers of groups
 ODD_NAMES = ("with a blank", "a/b\\c\"d'e", "ä, 名前, 🦀", "0", "n" * 300)
@@ -57,7 +69,12 @@ class Planned(Map):
             ("hosts", 0, "replicated", ("take -1", f"chooseleaf firstn 0 {HOST}", "emit")),
             ("hosts-of-parts", 1, "erasure", (*over, "take -1", f"chooseleaf indep 0 {HOST}", "emit")),
             ("racks", 2, "replicated", ("take -1", f"chooseleaf firstn 0 {RACK}", "emit")),
-            ("racks-then-hosts", 3, "replicated", ("take -1", f"choose firstn 2 {RACK}", f"chooseleaf firstn 2 {HOST}", "emit")),
+            (
+                "racks-then-hosts",
+                3,
+                "replicated",
+                ("take -1", f"choose firstn 2 {RACK}", f"chooseleaf firstn 2 {HOST}", "emit"),
+            ),
         )
 
     def rule_lines(self):
@@ -69,7 +86,10 @@ class Layout:
 
     def __init__(self, kind, osds, choice):
         self.kind, self.osds, numbers = kind, osds, iter(range(osds))
-        self.racks = [[[[next(numbers), weight(choice)] for _ in range(osds // HOSTS // RACKS)] for _ in range(HOSTS)] for _ in range(RACKS)]
+        self.racks = [
+            [[[next(numbers), weight(choice)] for _ in range(osds // HOSTS // RACKS)] for _ in range(HOSTS)]
+            for _ in range(RACKS)
+        ]
 
     def map(self):
         """Returns the map: the buckets of racks and hosts have the ids -2, -3 and so on, each rack
@@ -79,7 +99,9 @@ class Layout:
         map_.devices = self.osds
 
         def bucket(kind, type_, entries, id_=None):
-            return map_.bucket(kind, type_, [(it, entries[0][1]) for it, _ in entries] if kind == "uniform" else entries, id_)
+            return map_.bucket(
+                kind, type_, [(it, entries[0][1]) for it, _ in entries] if kind == "uniform" else entries, id_
+            )
 
         bucket(root, ROOT, [bucket(rack, RACK, [bucket(host, HOST, of) for of in hosts]) for hosts in self.racks], -1)
         return map_
@@ -109,7 +131,6 @@ class Layout:
             id_ += len(hosts) + 1
         return found
 
-
     def places(self):
         """Returns where each device is, its host and rack, and its weight."""
         of = {device: (host, rack) for host, rack, devices in self.hosts() for device in devices}
@@ -119,7 +140,11 @@ class Layout:
 def pools(kind, osds):
     """Returns the pools of a cluster of so many devices."""
     found = OWN_POOLS if kind in OWN else POOLS
-    return tuple({**it, "pg_num": LARGE_POOLS[it["pool"]], "pgp_num": LARGE_POOLS[it["pool"]]} for it in found) if osds == LARGE else found
+    return (
+        tuple({**it, "pg_num": LARGE_POOLS[it["pool"]], "pgp_num": LARGE_POOLS[it["pool"]]} for it in found)
+        if osds == LARGE
+        else found
+    )
 
 
 def class_of(kind, device):
@@ -130,7 +155,10 @@ def class_of(kind, device):
 def own_rules(kind):
     """Returns each rule of a map that Ceph makes: its name, type and class or None."""
     mode = OWN[kind]
-    return [(name, type_, "hdd" if mode == "crush-compat" and name == "racks" else class_ if mode else None) for name, (type_, class_) in OWN_RULES.items()]
+    return [
+        (name, type_, "hdd" if mode == "crush-compat" and name == "racks" else class_ if mode else None)
+        for name, (type_, class_) in OWN_RULES.items()
+    ]
 
 
 def weight(choice):

@@ -35,7 +35,13 @@ class Step:
         computed may be of some kinds."""
         command, *rest = [str(self.folder / it[7:]) if it.startswith("FOLDER/") else it for it in words]
         rest += self.record.get("more", [])
-        ran = subprocess.run([str(CRUSHPLAN), command, str(self.folder), *rest, "--json", "--program", self.program], stdin=subprocess.DEVNULL, stdout=subprocess.PIPE, stderr=subprocess.PIPE, timeout=SECONDS)
+        ran = subprocess.run(
+            [str(CRUSHPLAN), command, str(self.folder), *rest, "--json", "--program", self.program],
+            stdin=subprocess.DEVNULL,
+            stdout=subprocess.PIPE,
+            stderr=subprocess.PIPE,
+            timeout=SECONDS,
+        )
         try:
             said = json.loads(ran.stdout)
         except ValueError:
@@ -43,7 +49,9 @@ class Step:
         if "error" in said:
             raise Unsaid(f"crushplan {' '.join(words)}: {said['error']}")
         if said["status"] != ran.returncode:
-            raise Unsaid(f"crushplan {' '.join(words)}: exit status {ran.returncode}, and its JSON says {said['status']}")
+            raise Unsaid(
+                f"crushplan {' '.join(words)}: exit status {ran.returncode}, and its JSON says {said['status']}"
+            )
         if said["uncomputed"] and not all(it["kind"] in kinds for it in said["uncomputed"]):
             raise Unsaid(f"crushplan {' '.join(words)}: not computed: {said['uncomputed']}")
         return said
@@ -51,7 +59,10 @@ class Step:
     def moved(self):
         """Returns how many groups the cluster moved, in all stages."""
         lists = [self.before, *self.stages]
-        return sum(it["moved"] for it in self.kept.values()) + sum(len(moved_between(*it)) for it in (*zip(lists, lists[1:]), *((self.before, it) for it in self.drains.values())))
+        return sum(it["moved"] for it in self.kept.values()) + sum(
+            len(moved_between(*it))
+            for it in (*zip(lists, lists[1:]), *((self.before, it) for it in self.drains.values()))
+        )
 
     def drained(self):
         """Returns how many drains it has."""
@@ -97,10 +108,15 @@ def same(said, is_, what="crushplan"):
     if said == is_:
         return None
     if isinstance(is_, set):
-        return f"{what} alone: {sorted(said - is_)[:5]}, the cluster alone: {sorted(is_ - said)[:5]}, of {len(said)} and {len(is_)}"
+        return (
+            f"{what} alone: {sorted(said - is_)[:5]}, the cluster alone: {sorted(is_ - said)[:5]}, of {len(said)} and"
+            f" {len(is_)}"
+        )
     if isinstance(is_, dict):
         other = [it for it in {**said, **is_} if said.get(it) != is_.get(it)]
-        return f"{len(other)} of {len({**said, **is_})} differ: " + "; ".join(f"{it}: {what} {said.get(it)}, the cluster {is_.get(it)}" for it in other[:4])
+        return f"{len(other)} of {len({**said, **is_})} differ: " + "; ".join(
+            f"{it}: {what} {said.get(it)}, the cluster {is_.get(it)}" for it in other[:4]
+        )
     return f"{what}: {said}, the cluster: {is_}"
 
 
@@ -114,7 +130,9 @@ def compared(step):
     said = step.foretold("check", kinds=("straw",))
     yield "holes of tree buckets", same(said["holes"], step.record["holes"])
     if said["lying"]["by"] == "pgs.json":
-        yield "the groups that lie as computed by the cluster's own word", same((said["lying"]["same"], said["lying"]["others"]), (said_groups(step), []))
+        yield "the groups that lie as computed by the cluster's own word", same(
+            (said["lying"]["same"], said["lying"]["others"]), (said_groups(step), [])
+        )
 
 
 def said_groups(step):
@@ -125,14 +143,24 @@ def said_groups(step):
 def usage(step, said):
     """Compares all lists, copies, primaries and bytes of each device, and where objects lie."""
     rows = {it["device"]: it for it in said["rows"]}
-    yield from usage_beside(step, {it: of["copies"] for it, of in rows.items()}, {it: of["primaries"] for it, of in rows.items()}, step.before)
+    yield from usage_beside(
+        step,
+        {it: of["copies"] for it, of in rows.items()},
+        {it: of["primaries"] for it, of in rows.items()},
+        step.before,
+    )
     lists = {it["id"]: (it["up"], it["primary"]) for it in step.foretold("usage", "--groups")["groups"]}
-    yield f"up lists and primaries of all {len(lists)} groups", same(lists, {it: (of["up"], of["primary"]) for it, of in step.before.items()})
+    yield f"up lists and primaries of all {len(lists)} groups", same(
+        lists, {it: (of["up"], of["primary"]) for it, of in step.before.items()}
+    )
     for number, pool in step.pools.items():
         own = {it["device"]: it["bytes"] for it in step.foretold("usage", "--pool", pool["pool_name"])["rows"]}
         yield f"bytes of each device in pool {pool['pool_name']}", bytes_beside(step, number, own, step.before)
     for pool, names in step.record["objects"].items():
-        found = {it["name"]: {"id": it["id"], "up": it["up"], "primary": it["primary"]} for it in step.foretold("locate", pool, *names)["objects"]}
+        found = {
+            it["name"]: {"id": it["id"], "up": it["up"], "primary": it["primary"]}
+            for it in step.foretold("locate", pool, *names)["objects"]
+        }
         yield f"{len(names)} objects of pool {pool} lie where ceph osd map says", same(found, names)
 
 
@@ -153,8 +181,17 @@ def bytes_beside(step, number, said, groups):
     parts = step.pool(f"{number}.0")["size"] // 2 if step.pool(f"{number}.0")["type"] == ERASURE else 1
     least, greatest = (of(it["bytes"] for it in own) // parts for of in (min, max))
     copies = counted({str(place): it for place, it in enumerate(own)})
-    wrong = {device: bytes_ for device, bytes_ in said.items() if not copies.get(device, 0) * least <= bytes_ <= copies.get(device, 0) * greatest}
-    return f"{len(wrong)} of {len(said)} devices can't have so many with {least} to {greatest} in a copy: {dict(list(wrong.items())[:4])}, copies {[copies.get(it, 0) for it in list(wrong)[:4]]}" if wrong else None
+    wrong = {
+        device: bytes_
+        for device, bytes_ in said.items()
+        if not copies.get(device, 0) * least <= bytes_ <= copies.get(device, 0) * greatest
+    }
+    return (
+        f"{len(wrong)} of {len(said)} devices can't have so many with {least} to {greatest} in a copy:"
+        f" {dict(list(wrong.items())[:4])}, copies {[copies.get(it, 0) for it in list(wrong)[:4]]}"
+        if wrong
+        else None
+    )
 
 
 def moves(step, said, groups):
@@ -167,9 +204,13 @@ def moves(step, said, groups):
     yield "their up lists before and after", same(lists, {it: (step.before[it]["up"], groups[it]["up"]) for it in both})
     if all("primary_after" in it for it in said):
         primaries = {it: (told[it]["primary_before"], told[it]["primary_after"]) for it in both}
-        yield "their primaries before and after", same(primaries, {it: (step.before[it]["primary"], groups[it]["primary"]) for it in both})
+        yield "their primaries before and after", same(
+            primaries, {it: (step.before[it]["primary"], groups[it]["primary"]) for it in both}
+        )
     copies = {it: told[it]["copies"] for it in both}
-    yield "copies that were written anew", same(copies, {it: step.written(it, step.before[it]["up"], groups[it]["up"]) for it in both})
+    yield "copies that were written anew", same(
+        copies, {it: step.written(it, step.before[it]["up"], groups[it]["up"]) for it in both}
+    )
 
 
 def summed(step, said, groups):
@@ -178,10 +219,21 @@ def summed(step, said, groups):
     short = {it for it, of in groups.items() if step.is_short(it, of["up"])}
     by_pool = {it["name"]: (it["moved"], it["short_groups"]) for it in said["pools"]}
     moved = moved_between(step.before, groups)
-    yield "groups that moved and are short, by pool", same(by_pool, {it["pool_name"]: tuple(sum(step.pool(group) is it for group in of) for of in (moved, short)) for it in step.pools.values()})
+    yield "groups that moved and are short, by pool", same(
+        by_pool,
+        {
+            it["pool_name"]: tuple(sum(step.pool(group) is it for group in of) for of in (moved, short))
+            for it in step.pools.values()
+        },
+    )
     told = {it["id"] for it in said["groups"] if it["short"]}
     yield "groups that moved and are short", same(told, short & moved)
-    yield from usage_beside(step, {it["device"]: it["copies_after"] for it in said["usage"]}, {it["device"]: it["primaries_after"] for it in said["usage"]}, groups)
+    yield from usage_beside(
+        step,
+        {it["device"]: it["copies_after"] for it in said["usage"]},
+        {it["device"]: it["primaries_after"] for it in said["usage"]},
+        groups,
+    )
 
 
 def drain(step, said):
@@ -189,12 +241,18 @@ def drain(step, said):
     out, ended, *purged = step.stages
     yield from drained(step, said, out)
     short = {it for it, of in out.items() if step.is_short(it, of["up"])}
-    yield "undersized for good, once these end, are the groups without room", short_of_cluster(step, short, ended, step.before, True)
+    yield "undersized for good, once these end, are the groups without room", short_of_cluster(
+        step, short, ended, step.before, True
+    )
     yield "no more moves once they end", same(set(), moved_between(out, ended))
     if purged:
         moved = {it: (ended[it]["up"], purged[0][it]["up"]) for it in moved_between(ended, purged[0])}
-        yield f"{len(moved)} groups that purge moves", same({it["id"]: (it["before"], it["after"]) for it in said["purge"]["groups"]}, moved)
-        yield "copies that purge writes", same((said["purge"]["moved"], said["purge"]["copies"]), moved_and_copies(step, ended, purged[0]))
+        yield f"{len(moved)} groups that purge moves", same(
+            {it["id"]: (it["before"], it["after"]) for it in said["purge"]["groups"]}, moved
+        )
+        yield "copies that purge writes", same(
+            (said["purge"]["moved"], said["purge"]["copies"]), moved_and_copies(step, ended, purged[0])
+        )
     if "stores" in step.record:
         yield from stores(step, ended)
 
@@ -222,13 +280,17 @@ def kept_drains(step, _):
         for (names, it), said in zip(step.kept.items(), answers):
             short = said["short"]["groups"]
             here = {"moved": said["moved"], "copies": said["copies"], "short": short, "sum": sum_of(said["groups"])}
-            yield f"drain {' '.join(names)}: {it['moved']} groups moved, and their lists and primaries", same(here, {key: of for key, of in it.items() if key != "names"})
+            yield f"drain {' '.join(names)}: {it['moved']} groups moved, and their lists and primaries", same(
+                here, {key: of for key, of in it.items() if key != "names"}
+            )
             yield f"drain {' '.join(names)}: exit status", same(said["status"], 1 if it["short"] else 0)
 
 
 def sum_of(groups):
     """Returns a checksum of groups that move: their ids, lists and primaries before and after."""
-    lines = [json.dumps([it[of] for of in ("id", "before", "after", "primary_before", "primary_after")]) for it in groups]
+    lines = [
+        json.dumps([it[of] for of in ("id", "before", "after", "primary_before", "primary_after")]) for it in groups
+    ]
     return hashlib.sha256("\n".join(sorted(lines)).encode()).hexdigest()[:16]
 
 
@@ -239,11 +301,28 @@ def kept(step):
     for names, out in step.drains.items():
         moved = moved_between(step.before, out)
         both = {it: (step.before[it], out[it]) for it in moved}
-        groups = [{"id": it, "before": old["up"], "after": new["up"], "primary_before": old["primary"], "primary_after": new["primary"]} for it, (old, new) in both.items()]
+        groups = [
+            {
+                "id": it,
+                "before": old["up"],
+                "after": new["up"],
+                "primary_before": old["primary"],
+                "primary_after": new["primary"],
+            }
+            for it, (old, new) in both.items()
+        ]
         copies = sum(step.written(it, old["up"], new["up"]) for it, (old, new) in both.items())
         short = sum(step.is_short(it, of["up"]) for it, of in out.items())
-        found.append({"names": list(names), "moved": len(moved), "copies": copies, "short": short, "sum": sum_of(groups)})
-    return {**{key: it for key, it in step.record.items() if key in ("kind", "seed", "words", "pools", "holes")}, "by": "kept drains", "before": {}, "stages": [], "drains": found}
+        found.append(
+            {"names": list(names), "moved": len(moved), "copies": copies, "short": short, "sum": sum_of(groups)}
+        )
+    return {
+        **{key: it for key, it in step.record.items() if key in ("kind", "seed", "words", "pools", "holes")},
+        "by": "kept drains",
+        "before": {},
+        "stages": [],
+        "drains": found,
+    }
 
 
 def short_of_cluster(step, short, groups, before, ended=False):
@@ -270,7 +349,9 @@ def stores(step, groups):
         for device in it["acting"]:
             if device is not None and it["objects"]:
                 wanted[device][int(group.split(".")[0])] += it["objects"]
-    found = {int(device): {int(pool): count for pool, count in of.items()} for device, of in step.record["stores"].items()}
+    found = {
+        int(device): {int(pool): count for pool, count in of.items()} for device, of in step.record["stores"].items()
+    }
     yield "objects in the stores of OSDs", same({it: dict(wanted[it]) for it in found}, found, "the lists")
 
 
@@ -278,27 +359,42 @@ def fail(step, said):
     """Compares devices down, then out, then back."""
     down, out, back = step.stages
     told = {it["id"]: it for it in said["down"]["groups"]}
-    short = {it for it, of in down.items() if "undersized" in of["states"].split("+") or "stale" in of["states"].split("+")}
+    short = {
+        it for it, of in down.items() if "undersized" in of["states"].split("+") or "stale" in of["states"].split("+")
+    }
     yield f"{len(short)} groups undersized while devices are down", same(set(told), short)
-    stopped = {it for it, of in down.items() if "active" not in of["states"].split("+") or "stale" in of["states"].split("+")}
-    yield f"{len(stopped)} groups whose I/O stops", same({it for it, of in told.items() if of["below_min_size"]}, stopped)
+    stopped = {
+        it for it, of in down.items() if "active" not in of["states"].split("+") or "stale" in of["states"].split("+")
+    }
+    yield f"{len(stopped)} groups whose I/O stops", same(
+        {it for it, of in told.items() if of["below_min_size"]}, stopped
+    )
     both = set(told) & short
-    yield "their up lists and primaries", same({it: (told[it]["up"], told[it]["primary"]) for it in both}, {it: (down[it]["up"], down[it]["primary"]) for it in both})
+    yield "their up lists and primaries", same(
+        {it: (told[it]["up"], told[it]["primary"]) for it in both},
+        {it: (down[it]["up"], down[it]["primary"]) for it in both},
+    )
     yield from moves(step, said["out"]["groups"], out)
     yield from summed(step, said["out"], out)
     without = {it for it, of in out.items() if step.is_short(it, of["up"])}
     # of a group whose every OSD has ended nobody knows whether it is a copy short
     undersized = with_state(out, "undersized") | without & with_state(out, "stale")
-    yield f"undersized for good, once they are out, are the {len(without)} groups without room", same(without, undersized, "crushplan's lists")
+    yield f"undersized for good, once they are out, are the {len(without)} groups without room", same(
+        without, undersized, "crushplan's lists"
+    )
     yield "exit status", same(said["status"], 1 if stopped or without else 0)
     names = step.record["words"][1:-1]
     row = {it["name"]: it for it in step.foretold("fail", "--each", names[0].rstrip("0123456789"))["each"]}[names[0]]
     if len(names) == 1:
         told = [row[it] for it in ("below_min_size", "short_down", "short_groups", "moved")]
-        yield "its line among those of each rack", same(told, [len(stopped), len(short), len(without), len(moved_between(step.before, out))])
+        yield "its line among those of each rack", same(
+            told, [len(stopped), len(short), len(without), len(moved_between(step.before, out))]
+        )
     # Ceph forgets upmap items of devices that are out
     with_items = {it["pgid"] for it in json.loads((step.folder / "osd.json").read_text())["pg_upmap_items"]}
-    yield "where groups without upmap items lie once they are back", same(set(), moved_between(step.before, back) - with_items)
+    yield "where groups without upmap items lie once they are back", same(
+        set(), moved_between(step.before, back) - with_items
+    )
 
 
 def upmap(step, said):
@@ -307,7 +403,9 @@ def upmap(step, said):
     rows = [it for it in said["groups"] if it["before"] != it["after"]]
     yield from moves(step, rows, after)
     yield "groups and copies in all", same((said["moved"], said["copies"]), moved_and_copies(step, step.before, after))
-    yield "the rest of the groups named stays", same({it["id"]: it["after"] for it in said["groups"]}, {it["id"]: after[it["id"]]["up"] for it in said["groups"]})
+    yield "the rest of the groups named stays", same(
+        {it["id"]: it["after"] for it in said["groups"]}, {it["id"]: after[it["id"]]["up"] for it in said["groups"]}
+    )
 
 
 def compare(step, said):
@@ -322,21 +420,31 @@ def converted(step, said):
     that it can't compute the first."""
     yield from compare(step, said)
     check = step.foretold("check", kinds=("straw",))
-    yield "no pool of straw buckets can be computed", same((check["status"], {it["computed"] for it in check["pools"]}), (2, {False}))
+    yield "no pool of straw buckets can be computed", same(
+        (check["status"], {it["computed"] for it in check["pools"]}), (2, {False})
+    )
 
 
 def weight(step, said):
     """Compares a device of the CRUSH weight 0, then ended, then removed from the map."""
     weighed, ended, purged = step.stages
-    for what, own, old, new in (("the weight 0 moves", said["weight_first"], step.before, weighed), ("purge then moves", said["weight_first"]["then_purge"], ended, purged)):
+    for what, own, old, new in (
+        ("the weight 0 moves", said["weight_first"], step.before, weighed),
+        ("purge then moves", said["weight_first"]["then_purge"], ended, purged),
+    ):
         moved = {it: (old[it]["up"], new[it]["up"]) for it in moved_between(old, new)}
-        yield f"{len(moved)} groups that {what}", same({it["id"]: (it["before"], it["after"]) for it in own["groups"]}, moved)
-        yield f"copies that {what.split(' moves')[0]} writes", same((own["moved"], own["copies"]), moved_and_copies(step, old, new))
+        yield f"{len(moved)} groups that {what}", same(
+            {it["id"]: (it["before"], it["after"]) for it in own["groups"]}, moved
+        )
+        yield f"copies that {what.split(' moves')[0]} writes", same(
+            (own["moved"], own["copies"]), moved_and_copies(step, old, new)
+        )
     left = sum(set(said["devices"]) <= set(it["up"]) for it in weighed.values())
     yield "copies that stay on it", same(said["weight_first"]["left"], left)
     yield "no more moves once it ends", same(set(), moved_between(weighed, ended))
 
 
 COMMANDS = {
-    "usage": usage, "drain": drain, "drains": drains, "kept drains": kept_drains, "fail": fail, "upmap": upmap, "compare": compare, "converted": converted, "weight": weight,
+    "usage": usage, "drain": drain, "drains": drains, "kept drains": kept_drains, "fail": fail, "upmap": upmap,
+    "compare": compare, "converted": converted, "weight": weight,
 }  # fmt: skip

@@ -18,9 +18,9 @@ import uuid
 CONF = """[global]
 fsid = {fsid}
 mon initial members = a
-mon host = [v2:127.0.0.1:{ports[0]},v1:127.0.0.1:{ports[1]}]
-public addr = 127.0.0.1
-cluster addr = 127.0.0.1
+mon host = [v2:{address}:{ports[0]},v1:{address}:{ports[1]}]
+public addr = {address}
+cluster addr = {address}
 ms bind port min = 16800
 ms bind port max = 18800
 ms async op threads = 1
@@ -80,14 +80,30 @@ osd op num threads per shard = 1
 """
 BYTES_OF_OSD = 256 * 1024 * 1024
 GRACE = 600  # seconds
-NEEDED = ("ceph", "ceph-mon", "ceph-mgr", "ceph-osd", "ceph-objectstore-tool", "ceph-authtool", "monmaptool", "crushtool", "osdmaptool", "setpriv")
+NEEDED = (
+    "ceph",
+    "ceph-mon",
+    "ceph-mgr",
+    "ceph-osd",
+    "ceph-objectstore-tool",
+    "ceph-authtool",
+    "monmaptool",
+    "crushtool",
+    "osdmaptool",
+    "setpriv",
+)
 JOBS = 4
 # a group in one of these is still at work
-AT_WORK = {"creating", "unknown", "peering", "activating", "stale", "wait", "laggy", "recovering", "recovery_wait", "recovery_unfound",
-           "backfilling", "backfill_wait", "backfill_toofull", "forced_recovery", "forced_backfill", "repair", "snaptrim", "scrubbing"}  # fmt: skip
+AT_WORK = {
+    "creating", "unknown", "peering", "activating", "stale", "wait", "laggy", "recovering", "recovery_wait",
+    "recovery_unfound", "backfilling", "backfill_wait", "backfill_toofull", "forced_recovery", "forced_backfill",
+    "repair", "snaptrim", "scrubbing",
+}  # fmt: skip
 NONE = 2147483647
 MODULES = pathlib.Path("/usr/share/ceph/mgr")  # of the manager
-MAPPED = re.compile(r"(\d+)\.([0-9a-f]+) raw \(\[[^]]*\], p-?\d+\) up \(\[([^]]*)\], p(-?\d+)\) acting \(\[([^]]*)\], p-?\d+\)")
+MAPPED = re.compile(
+    r"(\d+)\.([0-9a-f]+) raw \(\[[^]]*\], p-?\d+\) up \(\[([^]]*)\], p(-?\d+)\) acting \(\[([^]]*)\], p-?\d+\)"
+)
 PERIOD = 1.2  # seconds: a little more than OSDs wait between two reports
 PATIENCE = 3600  # seconds for what takes a few on a machine that does nothing else
 
@@ -99,11 +115,20 @@ class Failed(Exception):
 def run(*words):
     """Returns what a program writes on standard output. Failed says why there is none."""
     try:
-        ran = subprocess.run([str(it) for it in words], stdin=subprocess.DEVNULL, stdout=subprocess.PIPE, stderr=subprocess.PIPE, timeout=PATIENCE)
+        ran = subprocess.run(
+            [str(it) for it in words],
+            stdin=subprocess.DEVNULL,
+            stdout=subprocess.PIPE,
+            stderr=subprocess.PIPE,
+            timeout=PATIENCE,
+        )
     except (OSError, subprocess.TimeoutExpired) as error:
         raise Failed(f"{words[0]}: {error}") from None
     if ran.returncode:
-        raise Failed(f"{' '.join(map(str, words))}: status {ran.returncode}: {ran.stderr.decode(errors='replace')[-500:].strip()}")
+        raise Failed(
+            f"{' '.join(map(str, words))}: status {ran.returncode}:"
+            f" {ran.stderr.decode(errors='replace')[-500:].strip()}"
+        )
     return ran.stdout.decode()
 
 
@@ -138,10 +163,12 @@ def awaited(found, what):
 class Cluster:
     """A cluster with the OSDs 0 .. osds-1, each up and in, in a map without buckets, with the
     balancer at rest, or without it. `modules` are others of the manager, folders that lie in its
-    own folder of modules or elsewhere, and `options` what they have by name. A `with` ends it."""
+    own folder of modules or elsewhere, and `options` what they have by name. `inside` are words
+    before its commands, which make them run where it has this address. A `with` ends it."""
 
-    def __init__(self, folder, osds, balancer=False, modules=(), options=()):
+    def __init__(self, folder, osds, balancer=False, modules=(), options=(), address="127.0.0.1", inside=()):
         self.folder, self.osds = pathlib.Path(folder).resolve(), osds
+        self.address, self.inside = address, inside
         self.modules = [*(["balancer"] if balancer else []), *modules]
         self.options = {**({"balancer/active": "false"} if balancer else {}), **dict(options)}
         self.conf, self.processes, self.client = self.folder / "ceph.conf", {}, None
@@ -169,10 +196,21 @@ class Cluster:
         for it in names:
             (self.folder / f"osd.{it}").mkdir()
             self.told("osd new", uuid=made[it], id=it)
-            key = self.told("auth get-or-create", entity=f"osd.{it}", caps=["mon", "allow profile osd", "mgr", "allow profile osd", "osd", "allow *"])
+            key = self.told(
+                "auth get-or-create",
+                entity=f"osd.{it}",
+                caps=["mon", "allow profile osd", "mgr", "allow profile osd", "osd", "allow *"],
+            )
             (self.folder / f"osd.{it}" / "keyring").write_text(key)
         with concurrent.futures.ThreadPoolExecutor(JOBS) as jobs:
-            list(jobs.map(lambda it: run("ceph-osd", "-c", self.conf, "-i", it, "--mkfs", "--osd-uuid", made[it], "--no-mon-config"), names))
+            list(
+                jobs.map(
+                    lambda it: run(
+                        "ceph-osd", "-c", self.conf, "-i", it, "--mkfs", "--osd-uuid", made[it], "--no-mon-config"
+                    ),
+                    names,
+                )
+            )
         for it in names:
             self.start_osd(it)
         self.await_up(names)
@@ -180,19 +218,50 @@ class Cluster:
     def start_monitor(self):
         fsid, ring, ports = str(uuid.uuid4()), self.folder / "keyring", free_ports(2)
         grace = min(GRACE, int(time.monotonic()))
-        self.conf.write_text(CONF.format(fsid=fsid, folder=self.folder, ports=ports, grace=grace, bytes_of_osd=BYTES_OF_OSD))
+        self.conf.write_text(
+            CONF.format(
+                fsid=fsid, folder=self.folder, ports=ports, grace=grace, bytes_of_osd=BYTES_OF_OSD, address=self.address
+            )
+        )
         run("ceph-authtool", "--create-keyring", ring, "--gen-key", "-n", "mon.", "--cap", "mon", "allow *")
-        run("ceph-authtool", ring, "--gen-key", "-n", "client.admin", *(word for of in ("mon", "osd", "mgr") for word in ("--cap", of, "allow *")))
+        run(
+            "ceph-authtool",
+            ring,
+            "--gen-key",
+            "-n",
+            "client.admin",
+            *(word for of in ("mon", "osd", "mgr") for word in ("--cap", of, "allow *")),
+        )
         monmap = self.folder / "monmap"
-        run("monmaptool", "--create", "--addv", "a", f"[v2:127.0.0.1:{ports[0]},v1:127.0.0.1:{ports[1]}]", "--fsid", fsid, monmap)
-        run("ceph-mon", "-c", self.conf, "--mkfs", "-i", "a", "--monmap", monmap, "--keyring", ring)
+        run(
+            "monmaptool",
+            "--create",
+            "--addv",
+            "a",
+            f"[v2:{self.address}:{ports[0]},v1:{self.address}:{ports[1]}]",
+            "--fsid",
+            fsid,
+            monmap,
+        )
+        words = ["--monmap", monmap, "--keyring", ring, *self.first_map()]
+        run("ceph-mon", "-c", self.conf, "--mkfs", "-i", "a", *words)
         self.spawn("mon.a", "ceph-mon", "-i", "a")
-        self.client = subprocess.Popen(["/usr/bin/python3", str(pathlib.Path(__file__).with_name("client.py")), str(self.conf)],
-                                       stdin=subprocess.PIPE, stdout=subprocess.PIPE, text=True)
+        self.client = subprocess.Popen(
+            [*self.inside, "/usr/bin/python3", str(pathlib.Path(__file__).with_name("client.py")), str(self.conf)],
+            stdin=subprocess.PIPE,
+            stdout=subprocess.PIPE,
+            text=True,
+        )
         self.told("osd stat")
 
+    def first_map(self):
+        """Returns the monitor's words on the map with which it begins: by itself that of no OSD."""
+        return []
+
     def start_manager(self):
-        key = self.told("auth get-or-create", entity="mgr.x", caps=["mon", "allow profile mgr", "osd", "allow *", "mds", "allow *"])
+        key = self.told(
+            "auth get-or-create", entity="mgr.x", caps=["mon", "allow profile mgr", "osd", "allow *", "mds", "allow *"]
+        )
         (self.folder / "mgr" / "keyring").write_text(key)
         for name, value in self.options.items():
             self.told("config set", who="mgr", name=f"mgr/{name}", value=value, force=True)
@@ -208,8 +277,13 @@ class Cluster:
     def spawn(self, name, program, *words):
         """Starts a process of the cluster, which gets SIGTERM when this one ends in any way."""
         said = (self.folder / "log" / f"{name}.out").open("ab")
-        self.processes[name] = subprocess.Popen(["setpriv", "--pdeathsig", "TERM", program, "-f", "-c", str(self.conf), *map(str, words)],
-                                                stdin=subprocess.DEVNULL, stdout=said, stderr=said, cwd=self.folder)
+        self.processes[name] = subprocess.Popen(
+            [*self.inside, "setpriv", "--pdeathsig", "TERM", program, "-f", "-c", str(self.conf), *map(str, words)],
+            stdin=subprocess.DEVNULL,
+            stdout=said,
+            stderr=said,
+            cwd=self.folder,
+        )
         said.close()
 
     def end(self, names):
@@ -251,7 +325,9 @@ class Cluster:
 
     def told_bytes(self, prefix, to="mon", given=b"", **words):
         """Returns the same as bytes."""
-        said = self.answer({"to": to, "command": {"prefix": prefix, **words}, "input": base64.b64encode(given).decode()})
+        said = self.answer(
+            {"to": to, "command": {"prefix": prefix, **words}, "input": base64.b64encode(given).decode()}
+        )
         if said["status"] < 0:
             raise Failed(f"ceph {prefix} {words}: {said['said']} ({said['status']})")
         return base64.b64decode(said["out"])
@@ -268,7 +344,16 @@ class Cluster:
 
     def stored(self, number):
         """Returns how many objects of each pool the store of an OSD holds, which has ended."""
-        out = run("ceph-objectstore-tool", "--no-mon-config", "--type", "memstore", "--data-path", self.folder / f"osd.{number}", "--op", "list")
+        out = run(
+            "ceph-objectstore-tool",
+            "--no-mon-config",
+            "--type",
+            "memstore",
+            "--data-path",
+            self.folder / f"osd.{number}",
+            "--op",
+            "list",
+        )
         found = collections.Counter()
         for line in out.splitlines():
             _, it = json.loads(line)
@@ -290,7 +375,8 @@ class Cluster:
         for it in self.asked("pg dump", "mgr", dumpcontents=["pgs_brief" if brief else "pgs"])["pg_stats"]:
             pool, group = it["pgid"].split(".")
             found[int(pool), int(group, 16)] = {
-                "up": listed(it["up"]), "primary": none_or(it["up_primary"]), "acting": listed(it["acting"]), "states": frozenset(it["state"].split("+")),
+                "up": listed(it["up"]), "primary": none_or(it["up_primary"]), "acting": listed(it["acting"]),
+                "states": frozenset(it["state"].split("+")),
                 **({} if brief else {"objects": it["stat_sum"]["num_objects"], "bytes": it["stat_sum"]["num_bytes"]}),
             }  # fmt: skip
         return found
@@ -314,7 +400,11 @@ class Cluster:
 
         def found():
             groups, mapped = self.groups(brief=True), self.mapped()
-            return groups if {key: it["up"] for key, it in groups.items()} == {key: up for key, (up, *_) in mapped.items()} else None
+            return (
+                groups
+                if {key: it["up"] for key, it in groups.items()} == {key: up for key, (up, *_) in mapped.items()}
+                else None
+            )
 
         return awaited(found, "the lists of the newest map")
 
@@ -326,7 +416,11 @@ class Cluster:
         while True:
             groups, mapped = self.groups(brief=last is None), self.mapped()
             gone = self.gone(groups, mapped)
-            why = {key: why_at_work(groups.get(key), up, acting) for key, (up, acting, _) in sorted(mapped.items()) if key not in gone}
+            why = {
+                key: why_at_work(groups.get(key), up, acting)
+                for key, (up, acting, _) in sorted(mapped.items())
+                if key not in gone
+            }
             why = {key: it for key, it in why.items() if it}
             short = {key: in_brief(it) for key, it in groups.items()}
             if not why and set(groups) == set(mapped) and short == last:
@@ -335,7 +429,6 @@ class Cluster:
                 raise Failed(f"{len(why)} groups didn't settle in {PATIENCE} s: {dict(list(why.items())[:5])}")
             last = short if not why else None
             time.sleep(PERIOD)
-
 
     def gone(self, groups, mapped):
         """Returns the groups whose every OSD has ended, and gives them the lists of the map. OSDs
@@ -358,7 +451,12 @@ def why_at_work(group, up, acting):
     if (group["up"], group["acting"]) != (up, acting):
         return f"its OSDs have {group['up']} {group['acting']}, the map has {up} {acting}"
     # an undersized group may keep a copy outside its list, if it has all that the list asks for
-    if states & AT_WORK or not states & {"clean", "undersized"} or "undersized" in states and not set(up) <= {*acting, None}:
+    if (
+        states & AT_WORK
+        or not states & {"clean", "undersized"}
+        or "undersized" in states
+        and not set(up) <= {*acting, None}
+    ):
         return "+".join(sorted(states))
     return None
 

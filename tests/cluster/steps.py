@@ -18,16 +18,19 @@ from clusters import CLASSES
 from make_maps import ONE, weight_text
 
 DUMPS = {
-    "crush.json": ("mon", "osd crush dump", {}), "osd.json": ("mon", "osd dump", {}), "df.json": ("mon", "df", {"detail": "detail"}),
+    "crush.json": ("mon", "osd crush dump", {}), "osd.json": ("mon", "osd dump", {}),
+    "df.json": ("mon", "df", {"detail": "detail"}),
     "osd-df.json": ("mgr", "osd df", {}), "pgs.json": ("mgr", "pg dump", {"dumpcontents": ["pgs_brief"]}),
 }  # fmt: skip
+LISTS = 3  # of devices, hosts and racks that are drained together, where drains come in turn
 
 
 class Story:
     """A cluster of a kind, and its steps."""
 
-    def __init__(self, cluster, kind, seed, folder):
+    def __init__(self, cluster, kind, seed, folder, lists=LISTS):
         self.cluster, self.kind, self.seed, self.folder, self.count = cluster, kind, seed, folder, 0
+        self.lists = lists
         self.choice = random.Random(f"{kind} {seed}")
         self.layout = clusters.Layout(kind, cluster.osds, self.choice)
         self.objects, self.pools = clusters.objects(self.choice, kind, cluster.osds), clusters.pools(kind, cluster.osds)
@@ -51,7 +54,9 @@ class Story:
         told = self.cluster.told
         for it in self.pools:
             told("osd pool create", **it)
-        for device in self.choice.sample(range(self.cluster.osds), 3) if clusters.OWN.get(self.kind) != "crush-compat" else ():
+        for device in (
+            self.choice.sample(range(self.cluster.osds), 3) if clusters.OWN.get(self.kind) != "crush-compat" else ()
+        ):
             told("osd reweight", id=device, weight=self.choice.randrange(ONE // 2, ONE) / ONE)
         self.cluster.settled()
         for pool, objects in self.objects.items():
@@ -73,8 +78,16 @@ class Story:
 
         def current():
             groups = self.cluster.groups()
-            said = {it["id"]: (it["stats"]["objects"], it["stats"]["stored"]) for it in self.cluster.asked("df", detail="detail")["pools"]}
-            own = {pool: tuple(sum(it[key] for (of, _), it in groups.items() if of == pool) for key in ("objects", "bytes")) for pool in wanted}
+            said = {
+                it["id"]: (it["stats"]["objects"], it["stats"]["stored"])
+                for it in self.cluster.asked("df", detail="detail")["pools"]
+            }
+            own = {
+                pool: tuple(
+                    sum(it[key] for (of, _), it in groups.items() if of == pool) for key in ("objects", "bytes")
+                )
+                for pool in wanted
+            }
             return groups if own == said and all(own[it][0] == wanted[it] for it in wanted) else None
 
         groups = real.awaited(current, "what ceph df says of the objects")
@@ -94,17 +107,31 @@ class Story:
         for said, does in stages:
             does()
             done.append({"done": said, "groups": self.cluster.settled()})
-        pools = {it["pool"]: {key: it[key] for key in ("pool_name", "size", "min_size", "type", "pg_num")} for it in self.cluster.asked("osd dump")["pools"]}
+        pools = {
+            it["pool"]: {key: it[key] for key in ("pool_name", "size", "min_size", "type", "pg_num")}
+            for it in self.cluster.asked("osd dump")["pools"]
+        }
         if "drains" in more:
             more["drains"] = more["drains"](before)
-        record = {"kind": self.kind, "seed": self.seed, "words": words, "pools": pools, "holes": holes, "before": before, "stages": done, **{key: it() if callable(it) else it for key, it in more.items()}}
+        record = {
+            "kind": self.kind,
+            "seed": self.seed,
+            "words": words,
+            "pools": pools,
+            "holes": holes,
+            "before": before,
+            "stages": done,
+            **{key: it() if callable(it) else it for key, it in more.items()},
+        }
         (folder / "step.json").write_text(text_of(record))
         return folder
 
     # ---- what is done
 
     def out(self, devices):
-        return "ceph osd out " + " ".join(map(str, devices)), lambda: self.cluster.told("osd out", ids=[str(it) for it in devices])
+        return "ceph osd out " + " ".join(map(str, devices)), lambda: self.cluster.told(
+            "osd out", ids=[str(it) for it in devices]
+        )
 
     def ended(self, devices):
         def end():
@@ -134,7 +161,12 @@ class Story:
         return "ceph osd purge " + " ".join(map(str, devices)), purge
 
     def devices_of(self, *names):
-        return [device for host, rack, devices in self.hosts() for device in devices if device in self.left and {host, rack, f"osd.{device}"} & set(names)]
+        return [
+            device
+            for host, rack, devices in self.hosts()
+            for device in devices
+            if device in self.left and {host, rack, f"osd.{device}"} & set(names)
+        ]
 
     # ---- the steps
 
@@ -148,7 +180,9 @@ class Story:
         yield self.failure()
         yield self.upmaps()
         yield self.map_changed()
-        host, _, devices = next(it for it in self.choice.sample(self.layout.hosts(), len(self.layout.hosts())) if len(it[2]) >= 3)
+        host, _, devices = next(
+            it for it in self.choice.sample(self.layout.hosts(), len(self.layout.hosts())) if len(it[2]) >= 3
+        )
         for place, device in enumerate(devices[:2]):
             yield self.device_removed(device)
             if clusters.KINDS[self.kind][2] == "tree":
@@ -156,11 +190,23 @@ class Story:
         yield self.host_drained(host)
 
     def located(self):
-        names = {pool: [name for name, _ in self.choice.sample(objects, 8)] + list(clusters.ODD_NAMES) for pool, objects in self.objects.items()}
+        names = {
+            pool: [name for name, _ in self.choice.sample(objects, 8)] + list(clusters.ODD_NAMES)
+            for pool, objects in self.objects.items()
+        }
 
         def asked():
-            found = {pool: {name: self.cluster.asked("osd map", pool=pool, object=name) for name in own} for pool, own in names.items()}
-            return {pool: {name: {"id": it["pgid"], "up": real.listed(it["up"]), "primary": real.none_or(it["up_primary"])} for name, it in own.items()} for pool, own in found.items()}
+            found = {
+                pool: {name: self.cluster.asked("osd map", pool=pool, object=name) for name in own}
+                for pool, own in names.items()
+            }
+            return {
+                pool: {
+                    name: {"id": it["pgid"], "up": real.listed(it["up"]), "primary": real.none_or(it["up_primary"])}
+                    for name, it in own.items()
+                }
+                for pool, own in found.items()
+            }
 
         return self.step("locate", ["usage"], objects=asked)
 
@@ -171,7 +217,9 @@ class Story:
         else:
             names = self.hosts_of_two_racks()
         devices = self.devices_of(*names)
-        return self.step("fail", ["fail", *names, "--groups"], self.ended(devices), self.out(devices), self.back(devices))
+        return self.step(
+            "fail", ["fail", *names, "--groups"], self.ended(devices), self.out(devices), self.back(devices)
+        )
 
     def hosts_of_two_racks(self):
         racks = self.choice.sample(sorted({it[1] for it in self.hosts()}), 2)
@@ -187,7 +235,14 @@ class Story:
             up = [it for it in groups[key]["up"] if it is not None]
             old = self.choice.choice(up)
             used = {place[it] for it in up if it != old}
-            others = [it for it in place if it not in up and place[it] not in used and place[it][0] == place[old][0] and self.class_of(it) == self.class_of(old)]
+            others = [
+                it
+                for it in place
+                if it not in up
+                and place[it] not in used
+                and place[it][0] == place[old][0]
+                and self.class_of(it) == self.class_of(old)
+            ]
             if others:
                 items[key] = (old, self.choice.choice(others))
         lines = [f"ceph osd pg-upmap-items {pool}.{group:x} {old} {new}" for (pool, group), (old, new) in items.items()]
@@ -196,29 +251,52 @@ class Story:
             for (pool, group), pair in items.items():
                 self.cluster.told("osd pg-upmap-items", pgid=f"{pool}.{group:x}", id=list(pair))
 
-        return self.step("upmap", ["upmap", "FOLDER/commands"], (f"{len(lines)} of ceph osd pg-upmap-items", send), files={"commands": "".join(f"{it}\n" for it in lines)})
+        return self.step(
+            "upmap",
+            ["upmap", "FOLDER/commands"],
+            (f"{len(lines)} of ceph osd pg-upmap-items", send),
+            files={"commands": "".join(f"{it}\n" for it in lines)},
+        )
 
     def map_changed(self):
         layout = self.layout.changed(self.choice)
-        return self.step("compare", ["compare", "FOLDER/new.txt", "--groups"], ("ceph osd setcrushmap", lambda: self.set_map(layout)), files={"new.txt": layout.map().text()})
+        return self.step(
+            "compare",
+            ["compare", "FOLDER/new.txt", "--groups"],
+            ("ceph osd setcrushmap", lambda: self.set_map(layout)),
+            files={"new.txt": layout.map().text()},
+        )
 
     def made_of(self, kind):
         """Sets the same map with buckets of another kind."""
         layout = self.layout.of_kind(kind)
-        return self.step(kind, ["compare", "FOLDER/new.txt", "--groups"], ("ceph osd setcrushmap", lambda: self.set_map(layout)), files={"new.txt": layout.map().text()})
+        return self.step(
+            kind,
+            ["compare", "FOLDER/new.txt", "--groups"],
+            ("ceph osd setcrushmap", lambda: self.set_map(layout)),
+            files={"new.txt": layout.map().text()},
+        )
 
     def class_of(self, device):
         return clusters.class_of(self.kind, device)
 
     def device_removed(self, device):
-        return self.step("remove", ["drain", f"osd.{device}", "--groups"], self.out([device]), self.ended([device]), self.purged([device]))
+        return self.step(
+            "remove",
+            ["drain", f"osd.{device}", "--groups"],
+            self.out([device]),
+            self.ended([device]),
+            self.purged([device]),
+        )
 
     def host_drained(self, other):
         """Drains another host than this; then ends every process, and counts what the stores of
         the others hold."""
         host = self.choice.choice([it[0] for it in self.hosts() if it[0] != other])
         devices = self.devices_of(host)
-        return self.step("drain", ["drain", host, "--groups"], self.out(devices), self.ended(devices), stores=lambda: self.stores())
+        return self.step(
+            "drain", ["drain", host, "--groups"], self.out(devices), self.ended(devices), stores=lambda: self.stores()
+        )
 
     def stores(self):
         """Ends the OSDs that are left, and returns how many objects of each pool each holds."""
@@ -251,7 +329,13 @@ class StrawStory(Story):
             if json.loads(self.cluster.told("osd crush dump", format="json"))["buckets"] != new["buckets"]:
                 raise real.Failed("the converted map has other buckets than the same ones of straw2")
 
-        return self.step("convert", ["compare", "FOLDER/new.json", "--groups"], ("ceph osd crush set-all-straw-buckets-to-straw2", convert), files={"new.json": json.dumps(new)}, by="converted")
+        return self.step(
+            "convert",
+            ["compare", "FOLDER/new.json", "--groups"],
+            ("ceph osd crush set-all-straw-buckets-to-straw2", convert),
+            files={"new.json": json.dumps(new)},
+            by="converted",
+        )
 
 
 class OwnStory(Story):
@@ -272,11 +356,21 @@ class OwnStory(Story):
                 told("osd crush set-device-class", **{"class": self.class_of(device)}, ids=[str(device)])
         for name, type_, class_ in clusters.own_rules(self.kind):
             if name == "hosts-of-parts":
-                profile = [*clusters.PROFILE, f"crush-failure-domain={type_}", *([f"crush-device-class={class_}"] if class_ else [])]
+                profile = [
+                    *clusters.PROFILE,
+                    f"crush-failure-domain={type_}",
+                    *([f"crush-device-class={class_}"] if class_ else []),
+                ]
                 told("osd erasure-code-profile set", name="two-and-two", profile=profile)
                 told("osd crush rule create-erasure", name=name, profile="two-and-two")
             else:
-                told("osd crush rule create-replicated", name=name, root="default", type=type_, **({"class": class_} if class_ else {}))
+                told(
+                    "osd crush rule create-replicated",
+                    name=name,
+                    root="default",
+                    type=type_,
+                    **({"class": class_} if class_ else {}),
+                )
         for device in self.choice.sample(range(self.cluster.osds), 4) if mode else ():
             told("osd primary-affinity", id=device, weight=self.choice.choice((0.0, 0.25, 0.5)))
         self.fill()
@@ -327,23 +421,40 @@ class OwnStory(Story):
         before, layout, edits = self.layout.places(), self.layout.changed(self.choice), []
         for device, (host, rack, weight) in layout.places().items():
             if before[device][:2] != (host, rack):
-                edits.append(("--move", f"osd.{device}", *(word for it in self.location(host, rack) for word in ("--loc", *it.split("=")))))
+                edits.append(
+                    (
+                        "--move",
+                        f"osd.{device}",
+                        *(word for it in self.location(host, rack) for word in ("--loc", *it.split("="))),
+                    )
+                )
             if before[device][2] != weight:
                 edits.append(("--reweight-item", f"osd.{device}", weight_text(weight)))
         compiled, dump = self.edited(*edits)
         self.layout = layout
-        return self.compared("compare", "ceph osd setcrushmap", lambda: self.cluster.told("osd setcrushmap", given=compiled), dump)
+        return self.compared(
+            "compare", "ceph osd setcrushmap", lambda: self.cluster.told("osd setcrushmap", given=compiled), dump
+        )
 
     def reweighted(self):
         """Gives a device another CRUSH weight."""
         device, weight = self.choice.choice(sorted(self.left)), clusters.weight(self.choice)
         _, dump = self.edited(("--reweight-item", f"osd.{device}", weight_text(weight)))
         said = f"ceph osd crush reweight osd.{device} {weight_text(weight)}"
-        return self.compared("reweight", said, lambda: self.cluster.told("osd crush reweight", name=f"osd.{device}", weight=weight / ONE), dump)
+        return self.compared(
+            "reweight",
+            said,
+            lambda: self.cluster.told("osd crush reweight", name=f"osd.{device}", weight=weight / ONE),
+            dump,
+        )
 
     def unplaced(self, device):
         """Takes a device out of the map, which stays up and in."""
-        return self.compared("unplace", f"ceph osd crush rm osd.{device}", lambda: self.cluster.told("osd crush rm", name=f"osd.{device}"))
+        return self.compared(
+            "unplace",
+            f"ceph osd crush rm osd.{device}",
+            lambda: self.cluster.told("osd crush rm", name=f"osd.{device}"),
+        )
 
     def host_added(self, device):
         """Sets a map in which crushtool has added a host with the device that is in none."""
@@ -351,7 +462,9 @@ class OwnStory(Story):
         place = (word for it in self.location("host-more", rack) for word in ("--loc", *it.split("=")))
         compiled, dump = self.edited(("--add-item", str(device), weight_text(weight), f"osd.{device}", *place))
         said = f"crushtool --add-item {device} {weight_text(weight)} osd.{device}, ceph osd setcrushmap"
-        return self.compared("add", said, lambda: self.cluster.told("osd setcrushmap", given=compiled), dump, more=["--allow-unplaced"])
+        return self.compared(
+            "add", said, lambda: self.cluster.told("osd setcrushmap", given=compiled), dump, more=["--allow-unplaced"]
+        )
 
     def class_given(self, device):
         """Gives a device without a class one, and takes another's for a new one."""
@@ -361,11 +474,19 @@ class OwnStory(Story):
             self.cluster.told("osd crush rm-device-class", ids=[str(other)])
             self.cluster.told("osd crush set-device-class", **{"class": CLASSES[-1]}, ids=[str(device), str(other)])
 
-        return self.compared("class", f"ceph osd crush rm-device-class {other}, set-device-class {CLASSES[-1]} {device} {other}", change)
+        return self.compared(
+            "class", f"ceph osd crush rm-device-class {other}, set-device-class {CLASSES[-1]} {device} {other}", change
+        )
 
     def compared(self, name, said, does, dump=None, **more):
         """Does a change of the map; without a dump of the new one that is known when it is done."""
-        folder = self.step(name, ["compare", "FOLDER/new.json", "--groups"], (said, does), files={"new.json": dump} if dump else {}, **more)
+        folder = self.step(
+            name,
+            ["compare", "FOLDER/new.json", "--groups"],
+            (said, does),
+            files={"new.json": dump} if dump else {},
+            **more,
+        )
         if not dump:
             (folder / "new.json").write_text(self.dumped())
         return folder
@@ -374,39 +495,72 @@ class OwnStory(Story):
 
     def weights_set(self):
         """Makes the weight set of all pools, with other weights of a third of the devices."""
-        weights = {it: clusters.weight(self.choice) for it in self.choice.sample(sorted(self.left), self.cluster.osds // 3)}
+        weights = {
+            it: clusters.weight(self.choice) for it in self.choice.sample(sorted(self.left), self.cluster.osds // 3)
+        }
 
         def make():
             self.cluster.told("osd crush weight-set create-compat")
             for device, weight in weights.items():
                 self.cluster.told("osd crush weight-set reweight-compat", item=f"osd.{device}", weight=[weight / ONE])
 
-        return self.compared("weights", f"ceph osd crush weight-set create-compat, {len(weights)} of reweight-compat", make)
+        return self.compared(
+            "weights", f"ceph osd crush weight-set create-compat, {len(weights)} of reweight-compat", make
+        )
 
     def balanced(self, mode):
         """Does what the balancer finds, if it finds anything."""
         told = self.cluster.told
-        for name, value in (("target_max_misplaced_ratio", "0.5"), ("mgr/balancer/upmap_max_deviation", "1"), ("mgr/balancer/upmap_max_optimizations", "30")):
+        for name, value in (
+            ("target_max_misplaced_ratio", "0.5"),
+            ("mgr/balancer/upmap_max_deviation", "1"),
+            ("mgr/balancer/upmap_max_optimizations", "30"),
+        ):
             told("config set", who="mgr", name=name, value=value, force=True)
         told("balancer mode", "mgr", mode=mode)
-        found = self.cluster.answer({"to": "mgr", "command": {"prefix": "balancer optimize", "plan": "found"}, "input": ""})
-        done = [] if found["status"] < 0 else [("the balancer's plan", lambda: told("balancer execute", "mgr", plan="found"))]
+        found = self.cluster.answer(
+            {"to": "mgr", "command": {"prefix": "balancer optimize", "plan": "found"}, "input": ""}
+        )
+        done = (
+            []
+            if found["status"] < 0
+            else [("the balancer's plan", lambda: told("balancer execute", "mgr", plan="found"))]
+        )
         if mode == "crush-compat":
             said, does = done[0] if done else ("nothing", lambda: None)
             return self.compared("balance", said, does)
         items = json.loads(told("balancer dump", "mgr", plan="found")) if done else {}
         lines = [f"ceph osd rm-pg-upmap-items {it}" for it in items.get("old_pg_upmap_items", ())]
-        lines += [f"ceph osd pg-upmap-items {it['pgid']} " + " ".join(f"{of['from']} {of['to']}" for of in it["mappings"]) for it in items.get("new_pg_upmap_items", ())]
-        return self.step("balance", ["upmap", "FOLDER/commands"], *(done or [("nothing", lambda: None)]), files={"commands": "".join(f"{it}\n" for it in lines)})
+        lines += [
+            f"ceph osd pg-upmap-items {it['pgid']} " + " ".join(f"{of['from']} {of['to']}" for of in it["mappings"])
+            for it in items.get("new_pg_upmap_items", ())
+        ]
+        return self.step(
+            "balance",
+            ["upmap", "FOLDER/commands"],
+            *(done or [("nothing", lambda: None)]),
+            files={"commands": "".join(f"{it}\n" for it in lines)},
+        )
 
     # ---- drains, each from the same state
 
     def drain_names(self):
-        """Returns what is drained: each device, host and rack, and some lists of them."""
+        """Returns what is drained: each device, host and rack, and lists of them, no devices
+        twice."""
         hosts = self.hosts()
         devices = [f"osd.{it}" for it in sorted(self.left)]
-        lists = [self.hosts_of_two_racks(), self.choice.sample(devices, 3), [self.choice.choice(devices), self.choice.choice(hosts)[0]]]
-        return [[it] for it in (*devices, *(host for host, _, _ in hosts), *sorted({rack for _, rack, _ in hosts}))] + lists
+        drawn = (
+            lambda turn: self.hosts_of_two_racks(),
+            lambda turn: self.choice.sample(devices, 3 + turn % 3),
+            lambda turn: [self.choice.choice(devices), self.choice.choice(hosts)[0]],
+        )
+        single = [*devices, *(host for host, _, _ in hosts), *sorted({rack for _, rack, _ in hosts})]
+        found, count = {frozenset(self.devices_of(it)): [it] for it in single}, 0
+        while len(found) < len(single) + self.lists:
+            names = drawn[count % len(drawn)](count // len(drawn))
+            found.setdefault(frozenset(self.devices_of(*names)), names)
+            count += 1
+        return list(found.values())
 
     def drained_in_turn(self):
         """Drains one after the other. Before the next one the devices are in again, with the upmap
@@ -420,13 +574,18 @@ class OwnStory(Story):
                 yield {"names": it, "groups": self.cluster.settled()}
                 self.in_again(devices, items)
                 again = self.cluster.placed()
-                if any((again[key]["up"], again[key]["primary"]) != (of["up"], of["primary"]) for key, of in before.items()):
+                if any(
+                    (again[key]["up"], again[key]["primary"]) != (of["up"], of["primary"]) for key, of in before.items()
+                ):
                     raise real.Failed(f"once {' '.join(it)} are in again, groups don't lie as before")
 
         return self.step("drains", ["check"], by="drains", drains=lambda before: list(all_(before)))
 
     def upmap_items(self):
-        return {it["pgid"]: [device for pair in it["mappings"] for device in (pair["from"], pair["to"])] for it in self.cluster.asked("osd dump")["pg_upmap_items"]}
+        return {
+            it["pgid"]: [device for pair in it["mappings"] for device in (pair["from"], pair["to"])]
+            for it in self.cluster.asked("osd dump")["pg_upmap_items"]
+        }
 
     def in_again(self, devices, items):
         self.cluster.told("osd in", ids=[str(it) for it in devices])
@@ -439,27 +598,53 @@ class OwnStory(Story):
 
     def weight_first(self, device):
         """Gives a device the CRUSH weight 0, ends it and removes it."""
-        weigh = f"ceph osd crush reweight osd.{device} 0", lambda: self.cluster.told("osd crush reweight", name=f"osd.{device}", weight=0.0)
-        return self.step("weight", ["drain", f"osd.{device}", "--groups"], weigh, self.ended([device]), self.purged([device]), by="weight")
+        weigh = f"ceph osd crush reweight osd.{device} 0", lambda: self.cluster.told(
+            "osd crush reweight", name=f"osd.{device}", weight=0.0
+        )
+        return self.step(
+            "weight",
+            ["drain", f"osd.{device}", "--groups"],
+            weigh,
+            self.ended([device]),
+            self.purged([device]),
+            by="weight",
+        )
 
 
 def text_of(record):
     """Returns a record as JSON, with a line for each group. A stage has the groups alone that
     differ from those before, and a group its acting list where that isn't up."""
+
     def said(group):
         kept = {key: it for key, it in group.items() if key != "acting" or it != group["up"]}
         return {**kept, "states": "+".join(sorted(group["states"]))}
 
     def lines(groups):
-        return "{\n" + ",\n".join(f'"{pool}.{group:x}": {json.dumps(it)}' for (pool, group), it in sorted(groups.items())) + "\n}"
+        return (
+            "{\n"
+            + ",\n".join(f'"{pool}.{group:x}": {json.dumps(it)}' for (pool, group), it in sorted(groups.items()))
+            + "\n}"
+        )
 
     before = {key: said(it) for key, it in record["before"].items()}
 
     def done(name):
-        found = [[json.dumps({key: of for key, of in it.items() if key != "groups"})[1:-1], {key: said(of) for key, of in it["groups"].items() if said(of) != before[key]}] for it in record.get(name, ())]
-        return f'"{name}": [' + ",\n".join('{%s, "groups": %s}' % (words, lines(groups)) for words, groups in found) + "]"
+        found = [
+            [
+                json.dumps({key: of for key, of in it.items() if key != "groups"})[1:-1],
+                {key: said(of) for key, of in it["groups"].items() if said(of) != before[key]},
+            ]
+            for it in record.get(name, ())
+        ]
+        return (
+            f'"{name}": [' + ",\n".join('{%s, "groups": %s}' % (words, lines(groups)) for words, groups in found) + "]"
+        )
 
-    rest = "".join(f"{json.dumps(key)}: {json.dumps(it)},\n" for key, it in record.items() if key not in ("before", "stages", "drains"))
+    rest = "".join(
+        f"{json.dumps(key)}: {json.dumps(it)},\n"
+        for key, it in record.items()
+        if key not in ("before", "stages", "drains")
+    )
     drains = f'{done("drains")},\n' if "drains" in record else ""
     return "{\n" + rest + f'"before": {lines(before)},\n{drains}{done("stages")}' + "\n}\n"
 

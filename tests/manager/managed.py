@@ -16,7 +16,10 @@ import steps  # noqa: E402
 
 CRUSHPLAN, MODULE = TOP / "tools" / "crushplan", TOP / "tools" / "mgr" / "crushplan"
 # those that are always on aren't there: the manager says so, and starts in a quarter of the time
-OTHERS = ("prometheus",)
+OTHERS = ["prometheus"]
+# what that imports in later releases
+LATER = ("object_format.py", "cherrypy_mgr.py", "orchestrator")
+OTHERS += [it for it in LATER if (real.MODULES / LATER[0]).exists() and (real.MODULES / it).exists()]
 HOSTS, OF_HOST = 4, 2
 SECONDS = 300
 INTERVAL = 2  # seconds between two looks of the module
@@ -144,6 +147,7 @@ class Managed:
     def await_check(self, name, wanted):
         """Waits until a check is as wanted, by a function that takes it, or None where it isn't
         there; returns it."""
+
         def found():
             it = self.checks().get(name)
             return (it,) if wanted(it) else None

@@ -1,9 +1,10 @@
 """What is tried of the module crushplan beside another module of the manager, and where the manager
 ends, step by step."""
 import os
+import time
 import urllib.request
 
-from managed import equals, real
+from managed import INTERVAL, equals, real
 from module_steps import scripted
 from program_steps import HANGS, LIMITS, SHORT
 
@@ -61,10 +62,26 @@ def killed(it):
     it.await_active()
     it.await_foretold(False)
     it.await_check("PROGRAM", lambda of: of is None or of[0] == 1)
-    left = [of.name for of in (it.cluster.folder / "mgr" / "crushplan").iterdir()]
-    equals("folders that are left", left, [])
+    # while a look runs its folder is there
+    real.awaited(lambda: not any((it.cluster.folder / "mgr" / "crushplan").iterdir()), "the end of each folder")
+
+
+def without_monitor(it):
+    """The manager loses its monitor for some looks: it stays, and has its checks once that is
+    back."""
+    process = it.cluster.processes["mgr.x"]
+    it.cluster.end(["mon.a"])
+    time.sleep(5 * INTERVAL)
+    it.cluster.spawn("mon.a", "ceph-mon", "-i", "a")
+    it.await_active()
+    it.make_pool("wide", 16, 5)
+    it.await_foretold(True)
+    it.remove_pool("wide")
+    it.await_foretold(False)
+    equals("the manager's end", process.poll(), None)
 
 
 STEPS = {
-    "prometheus": prometheus, "disabled and enabled": disabled, "killed": killed,
+    "prometheus": prometheus, "disabled and enabled": disabled, "without its monitor": without_monitor,
+    "killed": killed,
 }  # fmt: skip

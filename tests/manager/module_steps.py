@@ -20,6 +20,9 @@ COMMANDS = (
     ("fail", {"each": "osd"}, ["--each", "osd"]),
     ("locate", {"pool": "photos", "objects": ["photo-1", "a b", "ä/🦀"]}, ["photos", "photo-1", "a b", "ä/🦀"]),
     ("locate", {"group": ["1.9", "1.1f"]}, ["--group", "1.9", "--group", "1.1f"]),
+    ("balance", {}, []),
+    ("balance", {"names": ["photos"], "moves": "3", "for_bytes": "0"}, ["photos", "--moves", "3", "--for-bytes", "0"]),
+    ("balance", {"primaries": True}, ["--primaries"]),  # refused before release 18
 )  # fmt: skip
 # what is refused, and the words of crushplan that are
 REFUSED = (
@@ -29,31 +32,64 @@ REFUSED = (
     ("fail", {"each": "hots"}, ["--each", "hots"]),
     ("usage", {"pool": ["photo"]}, ["--pool", "photo"]),
     ("locate", {"group": ["1.ffff"]}, ["--group", "1.ffff"]),
+    ("balance", {"names": ["photo"]}, ["photo"]),
+    ("balance", {"moves": "few"}, ["--moves", "few"]),
 )
 UPMAP = b"ceph osd pg-upmap-items 1.3 0 6 1 7\nceph osd pg-upmap-items 1.9 2 4\n"
+RUNBOOK = b"""ceph osd out 6 7 # a host
+wait
+systemctl stop ceph-osd@6 ceph-osd@7
+ceph osd purge 6 --yes-i-really-mean-it
+ceph osd purge 7 --yes-i-really-mean-it
+wait
+ceph osd crush rm host3
+"""
+# commands with a file that they are sent, and the words of crushplan
+SENT = (
+    ("upmap", UPMAP, {}, []),
+    ("plan", RUNBOOK, {}, []),
+    ("plan", RUNBOOK, {"rate": "80", "orders": True, "groups": True}, ["--rate", "80", "--orders", "--groups"]),
+    ("plan", b"ceph osd crush reweight osd.99 1\nceph osd out 1\n", {}, []),
+)
+# the same of those that are refused: a line that is no command, and one that reads a file
+SENT_REFUSED = (
+    ("plan", b"ceph osd out 1\nceph osd oot 2\n", {}, []),
+    ("plan", RUNBOOK, {"rate": "fast"}, ["--rate", "fast"]),
+    ("plan", b"ceph osd out 1\nceph osd setcrushmap -i new.bin\n", {}, ["--no-files"]),
+)
 TRIES = 8  # how full devices are changes from one moment to the next
 EINVAL = -22
 
 
 def commands(it):
     """Each command's answer is the command line's on fetched dumps, as text and as JSON."""
-    for command, words, own in COMMANDS:
+    asked = [(command, words, own, b"") for command, words, own in COMMANDS]
+    asked += [(command, words, [*own, "-"], given) for command, given, words, own in SENT]
+    for command, words, own, given in asked:
         for more, form in (({}, []), ({"format": "json"}, ["--json"])):
-            same(it, command, {**words, **more}, [*own, *form])
-    same(it, "upmap", {}, ["-"], UPMAP)
+            same(it, command, {**words, **more}, [*own, *form], given)
     same(it, "check", {}, [], fetch=it.fetch_by_crushplan)
 
 
 def same(it, command, words, own, given=b"", fetch=None):
     for left in reversed(range(TRIES)):
-        folder = (fetch or it.fetch)()
-        status, out = it.ask(command, given, **words)
-        _, wanted, err = it.run(command, folder, *own, given=given)
-        if (status, lines(out)) == (0, lines(wanted)):
+        status, said = it.ask(command, given, **words)
+        found, wanted = (status, lines(said)), expected(it, command, (fetch or it.fetch)(), own, given)
+        if found == wanted:
             return
         if not left:
-            equals(f"{command} {words}", (status, lines(out)), (0, lines(wanted or err)))
+            equals(f"{command} {words}", found, wanted)
         time.sleep(1)
+
+
+def expected(it, command, folder, own, given):
+    """Returns the status and the lines that the module has to answer, by the command line on
+    dumps."""
+    _, out, err = it.run(command, folder, *own, given=given)
+    if out and not err:
+        return 0, lines(out)
+    last = err.strip().splitlines()[-1]
+    return EINVAL, [f"refused: {last.partition(': error: ')[2] or last.removeprefix('crushplan: ')}"]
 
 
 def lines(text):
@@ -65,14 +101,18 @@ def lines(text):
 def refusals(it):
     """What is refused says so in its first word, as the command line says why, and is an error."""
     folder = it.fetch()
-    for command, words, own in REFUSED:
-        _, out, err = it.run(command, folder, *own)
-        why = err.strip().splitlines()[-1].removeprefix("crushplan: ")
+    asked = [(command, words, own, b"") for command, words, own in REFUSED]
+    asked += [(command, words, [*own, "-"], given) for command, given, words, own in SENT_REFUSED]
+    for command, words, own, given in asked:
+        status, wanted = expected(it, command, folder, own, given)
+        equals(f"{command} {words} by crushplan: {wanted[:3]}", status, EINVAL)
         for form in ({}, {"format": "json"}):
-            equals(f"{command} {words} {form}", it.ask(command, **words, **form), (EINVAL, f"refused: {why}"))
-        equals(f"{command} {words}: standard output of crushplan", out, "")
+            equals(f"{command} {words} {form}", it.ask(command, given, **words, **form), (EINVAL, wanted[0]))
     equals("a form", it.ask("check", format="xml"), (EINVAL, "refused: crushplan answers plain or json, and not xml"))
-    equals("no file", it.ask("upmap"), (EINVAL, "refused: ceph crushplan upmap wants a file, by -i FILE"))
+    for command in ("upmap", "plan"):
+        equals("no file", it.ask(command), (EINVAL, f"refused: ceph crushplan {command} wants a file, by -i FILE"))
+    status, said = it.ask("plan", SENT_REFUSED[-1][1])
+    equals(said, (status, "line 2 ('ceph osd setcrushmap -i new.bin') can't be followed here" in said), (EINVAL, True))
 
 
 def options_as_names(it):
