@@ -27,7 +27,9 @@ def csv_of(reply):
     """The rows of a reply 'STATUS BODY', or of its body alone."""
     report = json.loads(reply[reply.index("{") :])
     head = HEADS["moved" in report]
-    return "".join(",".join(it) + "\n" for it in [head, *([field(row[name]) for name in head] for row in report["rows"])])
+    return "".join(
+        ",".join(it) + "\n" for it in [head, *([field(row[name]) for name in head] for row in report["rows"])]
+    )
 
 
 def pairs_of(dump, pool):
@@ -44,7 +46,11 @@ def main():
     if word in BODIES and len(more) == 2:
         print("POST", more[0], json.dumps({"request": more[1], BODIES[word]: data}))
     elif word == "upmap" and len(more) == 3:
-        print("POST", more[0], json.dumps({"request": more[1], "id": int(more[2]), "exceptions": [*pairs_of(json.loads(data), more[2])]}))
+        print(
+            "POST",
+            more[0],
+            json.dumps({"request": more[1], "id": int(more[2]), "exceptions": [*pairs_of(json.loads(data), more[2])]}),
+        )
     elif word == "csv" and not more:
         sys.stdout.write(csv_of(data))
     else:
