@@ -35,9 +35,11 @@ endif
 ifneq ($(and $(filter x86-64,$(CPU)),$(filter package package-check,$(MAKECMDGOALS))),)
   $(error There is a package for x86-64-v2 and one for x86-64-v3, and none for CPU=x86-64)
 endif
+# what is Python by its name, or by its first line
+PYTHON = $(sort $(shell find bench examples package tests tools -name '*.py'; grep -rlI '^.!.*python3' bench examples package tests tools))
 SOURCES = $(shell find crates -name out -prune -o \( -name '*.rt' -o -name '*.antt' \) -print)
 
-build: crushcalc
+build: crushcalc parts
 	@echo 'The program is ./crushcalc.'
 
 # the lines that begin with '##': a target, two blanks or more, and what it does
@@ -67,9 +69,10 @@ help:
 ##                what refused them; CRATES=--plan says how long that takes
 ## make only-tested   tries the wrong bodies that contracts let through, and records which test
 ##                refused each
-## make form      formats the sources of each crate; make test refuses what is not in this form
+## make form      formats the sources of each crate, and Python by black; make test refuses crates in
+##                another form, and lines of Python or JavaScript of over 120 columns
 ## make bench     builds and measures; beside Ceph's own library where that is installed
-## make instructions   counts the instructions of some thirty works beside the recorded ones, and
+## make instructions   counts the instructions of some sixty works beside the recorded ones, and
 ##                fails where one grew by over 2 %
 ##
 ## make package   builds, and makes a Debian package and a tarball of the program, the page, the
@@ -85,11 +88,14 @@ help:
 ##                failures, upmap items and changed maps of the seed SEED=S (the time) do to them,
 ##                does it, and compares: some 20 minutes
 ## make manager-check      starts a real Ceph cluster of eight OSDs with the module crushplan in its
-##                manager: commands, health checks that appear and go, programs that fail
+##                manager: commands, health checks that appear and go, programs that fail; and
+##                one of 1,000 OSDs that never start: how long it answers others, its memory
 ## make prometheus-check   tries the metrics and alerts by promtool, and by a real Prometheus that
 ##                scrapes a real node_exporter
 ## make http-check      compares replies of the server with those of scripts, by curl, nginx and
 ##                other clients
+## make machines-check      objects in bulk and searches over several machines, by GNU parallel and
+##                Dask, on this one; as root also tenants that move and machines that die: 20 minutes
 ## make page-check      tries the page in chromium; pictures of it are in build/page-check
 ## make package-check   as root: installs the package in a Debian with nothing else, made by
 ##                debootstrap, uses it, upgrades it from BEFORE=FILE and removes it
@@ -115,6 +121,10 @@ tools:
 	@command -v $(RT) >/dev/null 2>&1 || { \
 	  echo "The Rattle toolchain is missing: there is no command '$(RT)'. Put the folder bin/ of its kit on PATH, or give make RT=/path/to/rt." >&2; \
 	  echo "Nothing can be proved, tried or built without it. A release's package needs none of it: docs/RELEASES.md says how it is installed." >&2; exit 1; }
+
+# crushplan's parts as Python keeps them, so that its runs don't compile them anew
+parts:
+	@python3 -m compileall -q tools/crushplan_parts
 
 # the CPU that the programs were last built for; where another is named this changes, and they are
 # built again
@@ -147,7 +157,7 @@ build/crush_bench: $(SOURCES) crates.txt HANDLES build/cpu | tools
 SHOW = awk '$$0 != "" && $$0 != "\r" { print "> " $$0; getline reply <"build/replies"; print reply }' '$(SCRIPT)'
 
 # built again where its sources changed, else there at once
-try: tools
+try: tools parts
 	@mkdir -p build
 	@[ -r '$(SCRIPT)' ] || { echo "There is no file '$(SCRIPT)' to play." >&2; exit 1; }
 	@RT='$(RT)' python3 tools/played --keep build/try/crushcalc
@@ -179,6 +189,8 @@ wrong: tools
 
 form: tools
 	@for crate in crates/*; do (cd "$$crate" && $(RT) fmt) || exit 1; done
+	@sh tools/need black
+	@black -q $(PYTHON)
 
 install: build
 	@echo 'Installing $(DESTDIR)$(PREFIX)/bin/crushcalc'
@@ -188,6 +200,7 @@ install: build
 	@install -m 755 tools/crushplan '$(DESTDIR)$(PREFIX)/bin/crushplan'
 	@install -d '$(DESTDIR)$(PREFIX)/share/crushcalc/crushplan_parts' '$(DESTDIR)$(PREFIX)/share/bash-completion/completions' '$(DESTDIR)$(PREFIX)/share/zsh/site-functions'
 	@install -m 644 tools/crushplan_parts/*.py '$(DESTDIR)$(PREFIX)/share/crushcalc/crushplan_parts'
+	@python3 -m compileall -q -s '$(DESTDIR)' '$(DESTDIR)$(PREFIX)/share/crushcalc/crushplan_parts'
 	@install -m 644 tools/crushplan.bash '$(DESTDIR)$(PREFIX)/share/bash-completion/completions/crushplan'
 	@install -m 644 tools/crushplan.zsh '$(DESTDIR)$(PREFIX)/share/zsh/site-functions/_crushplan'
 	@echo 'Installing the page: $(DESTDIR)$(PREFIX)/share/crushcalc/web'
@@ -223,6 +236,7 @@ NEEDS_cluster = ceph-mon ceph-mgr ceph-osd ceph=ceph-common crushtool=ceph-base 
 NEEDS_manager = $(NEEDS_cluster) /usr/share/ceph/mgr/mgr_module.py=ceph-mgr-modules-core
 NEEDS_prometheus = promtool=prometheus prometheus prometheus-node-exporter systemd-analyze=systemd
 NEEDS_http = curl nginx openssl systemd-analyze=systemd ab=apache2-utils mkfs.btrfs=btrfs-progs nft=nftables python:jsonschema=python3-jsonschema python:yaml=python3-yaml /usr/share/openapi-specification=openapi-specification
+NEEDS_machines = parallel openssl python:distributed=python3-distributed osdmaptool=ceph-base $(NEEDS_cluster) ceph-mds ceph-fuse keepalived nginx curl ip=iproute2 nsenter=util-linux
 NEEDS_page = nginx openssl $(D3)=libjs-d3 chromium chromedriver=chromium-driver python:selenium=python3-selenium
 NEEDS_package = debootstrap unshare=util-linux
 NEEDS_sqlite = sqlite3
@@ -239,9 +253,13 @@ python3 tests/ceph/check_plan --program ./crushcalc --seed $(SEED) tools/crushpl
 python3 tests/ceph/check_balance --program ./crushcalc --seed $(SEED) tools/crushplan
 endef
 CHECK_cluster = python3 tests/cluster/check ./crushcalc --seed $(SEED)
-CHECK_manager = python3 tests/manager/check ./crushcalc
+define CHECK_manager
+python3 tests/manager/check ./crushcalc
+python3 tests/manager/large ./crushcalc
+endef
 CHECK_prometheus = python3 tests/prometheus/check ./crushcalc
 CHECK_http = python3 tests/http/check ./crushcalc
+CHECK_machines = python3 tests/machines/check --long ./crushcalc
 CHECK_page = /usr/bin/python3 tests/page/check ./crushcalc
 CHECK_package = python3 package/check build/package/*_amd64.deb $(BEFORE)
 CHECK_sqlite = python3 tests/files/with_sqlite3 ./crushcalc
@@ -259,7 +277,7 @@ python3 tests/fuzz/check ./crushcalc --inputs 20000 --seed $(SEED) --cases build
 cd crates/crushcalc && $(RT) try --cases ../../build/sanitized -- script
 endef
 
-CHECKS = ceph cluster manager prometheus http page package sqlite refused fuzz sanitized stops kill
+CHECKS = ceph cluster manager prometheus http machines page package sqlite refused fuzz sanitized stops kill
 ceph-check: build/crush_bench
 package-check: package
 $(CHECKS:=-check): %-check: build
@@ -290,6 +308,6 @@ bench-deps:
 
 clean:
 	@echo 'Removing ./crushcalc, build/ and crates/*/out; the next build proves everything anew.'
-	@rm -rf crushcalc build crates/*/out
+	@rm -rf crushcalc build crates/*/out tools/crushplan_parts/__pycache__
 
-.PHONY: any build help tools try cases run test test-all wrong form install package rebuild-check release dist serve only-tested page bench instructions bench-deps clean $(CHECKS:=-check)
+.PHONY: any build help tools parts try cases run test test-all wrong form install package rebuild-check release dist serve only-tested page bench instructions bench-deps clean $(CHECKS:=-check)

@@ -27,7 +27,14 @@ COLLECTED = re.compile(rb"Collected : (\d+)")
 
 
 def bucket(type_, name, number, kind, items):
-    return [f"{type_} {name} {{", f"\tid -{number}", f"\talg {kind}", "\thash 0", *(f"\titem {it} weight {weight}.000" for it, weight in items), "}"]
+    return [
+        f"{type_} {name} {{",
+        f"\tid -{number}",
+        f"\talg {kind}",
+        "\thash 0",
+        *(f"\titem {it} weight {weight}.000" for it, weight in items),
+        "}",
+    ]
 
 
 def cluster(devices, kind="list", hosts=None):
@@ -36,16 +43,47 @@ def cluster(devices, kind="list", hosts=None):
     all_hosts = devices // PER_HOST
     per_rack, hosts = SHAPES[devices], hosts or all_hosts
     lines = [MARK] if kind == "straw2" else []
-    lines += [f"tunable {it}" for it in ("choose_local_tries 0", "choose_local_fallback_tries 0", "choose_total_tries 50", "chooseleaf_descend_once 1", "chooseleaf_vary_r 1", "chooseleaf_stable 1")]
-    lines += [f"device {it} osd.{it:05}" for it in range(devices)] + ["type 0 osd", "type 1 host", "type 2 rack", "type 3 root"]
+    lines += [
+        f"tunable {it}"
+        for it in (
+            "choose_local_tries 0",
+            "choose_local_fallback_tries 0",
+            "choose_total_tries 50",
+            "chooseleaf_descend_once 1",
+            "chooseleaf_vary_r 1",
+            "chooseleaf_stable 1",
+        )
+    ]
+    lines += [f"device {it} osd.{it:05}" for it in range(devices)] + [
+        "type 0 osd",
+        "type 1 host",
+        "type 2 rack",
+        "type 3 root",
+    ]
     racks = [[it for it in range(start, start + per_rack) if it < hosts] for start in range(0, all_hosts, per_rack)]
     for it in range(hosts):
-        lines += bucket("host", f"host.{it:04}", 2 + len(racks) + it, kind, [(f"osd.{PER_HOST * it + place:05}", 1) for place in range(PER_HOST)])
+        lines += bucket(
+            "host",
+            f"host.{it:04}",
+            2 + len(racks) + it,
+            kind,
+            [(f"osd.{PER_HOST * it + place:05}", 1) for place in range(PER_HOST)],
+        )
     for number, own in enumerate(racks):
         lines += bucket("rack", f"rack.{number:02}", 2 + number, kind, [(f"host.{it:04}", PER_HOST) for it in own])
     weights = [PER_HOST * (per_rack if kind == "uniform" else len(own)) for own in racks]
-    lines += bucket("root", "default", 1, kind, [(f"rack.{number:02}", weight) for number, weight in enumerate(weights)])
-    rule = ("id 0", "type replicated", "min_size 1", "max_size 10", "step take default", f"step chooseleaf firstn {SIZE} type host", "step emit")
+    lines += bucket(
+        "root", "default", 1, kind, [(f"rack.{number:02}", weight) for number, weight in enumerate(weights)]
+    )
+    rule = (
+        "id 0",
+        "type replicated",
+        "min_size 1",
+        "max_size 10",
+        "step take default",
+        f"step chooseleaf firstn {SIZE} type host",
+        "step emit",
+    )
     return "\n".join([*lines, "rule data {", *(f"\t{it}" for it in rule), "}"]) + "\n"
 
 
@@ -63,8 +101,14 @@ class States:
 
     def lines(self):
         """The requests that store these states."""
-        changes = [{"id": it, "reweight": self.reweights.get(it, ONE), "up": it not in self.down} for it in sorted({*self.reweights, *self.down})]
-        return [post("devices", request=f"states {start}", devices=changes[start : start + CHANGES]) for start in range(0, len(changes), CHANGES)]
+        changes = [
+            {"id": it, "reweight": self.reweights.get(it, ONE), "up": it not in self.down}
+            for it in sorted({*self.reweights, *self.down})
+        ]
+        return [
+            post("devices", request=f"states {start}", devices=changes[start : start + CHANGES])
+            for start in range(0, len(changes), CHANGES)
+        ]
 
     def words(self):
         """The same to crushtool, which has reweights and no device that is down."""
@@ -79,12 +123,27 @@ def post(path, tenant="a", **members):
 
 
 def imports(*texts, tenant="a"):
-    return [f"PUT /t/{tenant}", *(post("maps", tenant, request=f"map {place}", text=text) for place, text in enumerate(texts))]
+    return [
+        f"PUT /t/{tenant}",
+        *(post("maps", tenant, request=f"map {place}", text=text) for place, text in enumerate(texts)),
+    ]
 
 
 def pool(groups=GROUPS, tenant="a"):
     """The pool 1, of which group g has the seed g + 1."""
-    return post("pools", tenant, request="pool", id=1, name="pool", kind="replicated", size=SIZE, rule=0, pg_num=groups, pgp_num=groups, hashpspool=False)
+    return post(
+        "pools",
+        tenant,
+        request="pool",
+        id=1,
+        name="pool",
+        kind="replicated",
+        size=SIZE,
+        rule=0,
+        pg_num=groups,
+        pgp_num=groups,
+        hashpspool=False,
+    )
 
 
 def asks(count, first=0):
@@ -101,7 +160,21 @@ def body(written):
 
 def tried(compiled, *words, groups=GROUPS):
     """The words by which crushtool places the groups of the pool."""
-    return ("crushtool", "-i", compiled, "--test", "--rule", 0, "--num-rep", SIZE, "--min-x", 1, "--max-x", groups, *words)
+    return (
+        "crushtool",
+        "-i",
+        compiled,
+        "--test",
+        "--rule",
+        0,
+        "--num-rep",
+        SIZE,
+        "--min-x",
+        1,
+        "--max-x",
+        groups,
+        *words,
+    )
 
 
 def stored_in(written):
@@ -149,12 +222,16 @@ class Bench:
         """The seconds of processor time that a program took, and what it wrote."""
         before = resource.getrusage(resource.RUSAGE_CHILDREN)
         with open(given or os.devnull, "rb") as source:
-            ran = subprocess.run([str(it) for it in words], stdin=source, stdout=subprocess.PIPE, stderr=subprocess.PIPE)
+            ran = subprocess.run(
+                [str(it) for it in words], stdin=source, stdout=subprocess.PIPE, stderr=subprocess.PIPE
+            )
         after = resource.getrusage(resource.RUSAGE_CHILDREN)
         replies = ran.stdout.splitlines() if "script" in words else []
         wrong = next((it for it in replies if not it.startswith(b"20")), None)
         if ran.returncode != 0 or wrong:
-            sys.exit(f"{words}: status {ran.returncode}, {ran.stderr.decode(errors='replace')[:200]}, a reply {wrong!r}")
+            sys.exit(
+                f"{words}: status {ran.returncode}, {ran.stderr.decode(errors='replace')[:200]}, a reply {wrong!r}"
+            )
         return after.ru_utime + after.ru_stime - before.ru_utime - before.ru_stime, ran.stdout, ran.stderr
 
     def by_turns(self, works, runs=RUNS):
@@ -173,13 +250,17 @@ class Bench:
             sys.exit("valgrind isn't installed, so no instructions are counted.")
         spent, written = {}, {}
         for name, (words, given) in works.items():
-            _, written[name], said_ = self.run(("valgrind", "--tool=callgrind", f"--callgrind-out-file={self.folder / 'callgrind'}", *words), given)
+            _, written[name], said_ = self.run(
+                ("valgrind", "--tool=callgrind", f"--callgrind-out-file={self.folder / 'callgrind'}", *words), given
+            )
             spent[name] = int(COLLECTED.search(said_).group(1))
         return spent, written
 
     def callgrind_table(self):
         """The functions of the last work whose instructions were counted, each with its callees."""
-        return self.run(("callgrind_annotate", "--inclusive=yes", "--threshold=100", self.folder / "callgrind"))[1].decode()
+        return self.run(("callgrind_annotate", "--inclusive=yes", "--threshold=100", self.folder / "callgrind"))[
+            1
+        ].decode()
 
     def peak(self, words, given=None):
         """The bytes of memory that a program took at most, and the last line that it wrote."""

@@ -81,7 +81,13 @@ def flat(kind, count, weight):
 def of_length(length, kind="list"):
     """A map with names of 64 bytes whose canonical text has about this many bytes, and whose
     buckets are of this kind."""
-    head = ["tunable choose_local_tries 0", "tunable choose_local_fallback_tries 0", "type 0 osd", "type 1 host", "type 2 root"]
+    head = [
+        "tunable choose_local_tries 0",
+        "tunable choose_local_fallback_tries 0",
+        "type 0 osd",
+        "type 1 host",
+        "type 2 root",
+    ]
     # a device with its line and its item takes some 178 bytes
     count = min(1024, length // 178)
     names = [f"device-{it:057}" for it in range(count)]
@@ -90,9 +96,29 @@ def of_length(length, kind="list"):
     more, hosts = max(0, length - 178 * count), []
     while more > 0:
         hosts.append(len(hosts) + 2)
-        lines += [f"host host-{len(hosts):059} {{", f"\tid -{hosts[-1]}", f"\talg {kind}", *items[: min(count, more // 90 + 1)], "}"]
+        lines += [
+            f"host host-{len(hosts):059} {{",
+            f"\tid -{hosts[-1]}",
+            f"\talg {kind}",
+            *items[: min(count, more // 90 + 1)],
+            "}",
+        ]
         more -= 90 * min(count, more // 90 + 1)
-    lines += ["root default {", "\tid -1", f"\talg {kind}", *items, "}", "rule all {", "\tid 0", "\ttype replicated", "\tstep take default", "\tstep choose firstn 0 type osd", "\tstep emit", "}", ""]
+    lines += [
+        "root default {",
+        "\tid -1",
+        f"\talg {kind}",
+        *items,
+        "}",
+        "rule all {",
+        "\tid 0",
+        "\ttype replicated",
+        "\tstep take default",
+        "\tstep choose firstn 0 type osd",
+        "\tstep emit",
+        "}",
+        "",
+    ]
     return "\n".join(lines)
 
 
@@ -109,7 +135,19 @@ def change_of(tenant, number, up):
 
 
 def pool_of(tenant, groups=65536, size=1):
-    return post(tenant, "pools", request="pool", id=1, name="pool", kind="replicated", size=size, rule=0, pg_num=groups, pgp_num=groups, hashpspool=True)
+    return post(
+        tenant,
+        "pools",
+        request="pool",
+        id=1,
+        name="pool",
+        kind="replicated",
+        size=size,
+        rule=0,
+        pg_num=groups,
+        pgp_num=groups,
+        hashpspool=True,
+    )
 
 
 # ---- runs
@@ -122,7 +160,12 @@ def took(program, lines, db=None, statuses=("2",)):
         script.write(data)
         script.seek(0)
         start = time.perf_counter()
-        ran = subprocess.run([program, "script", *(["--db", str(db)] if db else [])], stdin=script, stdout=subprocess.PIPE, stderr=subprocess.PIPE)
+        ran = subprocess.run(
+            [program, "script", *(["--db", str(db)] if db else [])],
+            stdin=script,
+            stdout=subprocess.PIPE,
+            stderr=subprocess.PIPE,
+        )
         spent = time.perf_counter() - start
     wrong = next((it for it in ran.stdout.decode().splitlines() if not it.startswith(statuses)), None)
     if ran.returncode or wrong:

@@ -98,22 +98,43 @@ pub fn law()
 {}
 """
 CALLS = [
-    ("Store::read(&self, key: &str) -> Option<Row>", ["requires open { IsOpen self.now }", "requires { length key.now < 2 ^ 32 }"], "Reads a row. `None`: there is none."),
+    (
+        "Store::read(&self, key: &str) -> Option<Row>",
+        ["requires open { IsOpen self.now }", "requires { length key.now < 2 ^ 32 }"],
+        "Reads a row. `None`: there is none.",
+    ),
     ("Store::kept(&self) -> bool", [], ""),
     ("Kept::kept(&self) -> bool", [], ""),
     ("open<T: Disk>(disk: T) -> Store", ["requires { rows.fits disk }"], "Opens a store."),
     ("law()", [], "A law."),
 ]
-CITED = {("one", "Held", "Holds"), ("one", "Held", "IsOpen"), ("two", "Rows", "Row"), ("two", "Rows", "Kind"), ("two", "Rows", "fits")}
+CITED = {
+    ("one", "Held", "Holds"),
+    ("one", "Held", "IsOpen"),
+    ("two", "Rows", "Row"),
+    ("two", "Rows", "Kind"),
+    ("two", "Rows", "fits"),
+}
 
 # ---- the calls of some crates
 KNOWN = {
-    "crush_hash": "hash1 hash2 hash3 hash4 hash5 name_hash hash3_lanes hash3_each hash3_four hash3_items hash4_each hash4_four hash4_lanes Perm::build Perm::member Perm::kept Perms::build Perms::member eight_members permutation_has_each_place a_perm_keeps_few_places",
+    "crush_hash": (
+        "hash1 hash2 hash3 hash4 hash5 name_hash hash3_lanes hash3_each hash3_four hash3_items hash4_each hash4_four"
+        " hash4_lanes Perm::build Perm::member Perm::kept Perms::build Perms::member eight_members"
+        " permutation_has_each_place a_perm_keeps_few_places"
+    ),
     "crush_writing": "write_map",
-    "tenant_reports": "read_pick answer AskedBucket::new AskedBucket::pick picks_are_of_the_form read_changes device_csv_requests_are_of_the_form id_of touched_reply moved_reply MoveRow::push UsageRow::push",
-    "tenant_service": "history a_number_with_a_receipt_changes_nothing only_a_drop_takes_a_receipt_away a_changing_request_has_the_path_and_the_body_of_its_call "
-    "memory_stores_are_honest MemoryStore::new MemoryStore::is_latched MemoryStore::load MemoryStore::find_receipt MemoryStore::create MemoryStore::commit MemoryStore::remove "
-    "Service::in_memory Service::over Service::with_routes Service::into_store Service::is_latched Service::request Service::run Service::run_session write_whole shown_body",
+    "tenant_reports": (
+        "read_pick answer AskedBucket::new AskedBucket::pick picks_are_of_the_form read_changes"
+        " device_csv_requests_are_of_the_form id_of touched_reply moved_reply MoveRow::push UsageRow::push"
+    ),
+    "tenant_service": (
+        "history a_number_with_a_receipt_changes_nothing only_a_drop_takes_a_receipt_away"
+        " a_changing_request_has_the_path_and_the_body_of_its_call memory_stores_are_honest MemoryStore::new"
+        " MemoryStore::is_latched MemoryStore::load MemoryStore::find_receipt MemoryStore::create MemoryStore::commit"
+        " MemoryStore::remove Service::in_memory Service::over Service::with_routes Service::into_store"
+        " Service::is_latched Service::request Service::run Service::run_session write_whole shown_body"
+    ),
 }
 
 
@@ -135,16 +156,25 @@ def example_faults():
 
 def known_faults():
     for crate, names in KNOWN.items():
-        found = {(f"{call.owner}::" if call.owner else "") + call.name for _, calls in contracting.calls_of(crate) for call in calls}
+        found = {
+            (f"{call.owner}::" if call.owner else "") + call.name
+            for _, calls in contracting.calls_of(crate)
+            for call in calls
+        }
         if found != set(names.split()):
-            yield f"the calls of {crate} differ from those in tests/documents/contracts.py: {sorted(found ^ set(names.split()))}"
+            yield (
+                f"the calls of {crate} differ from those in tests/documents/contracts.py:"
+                f" {sorted(found ^ set(names.split()))}"
+            )
 
 
 def cited_faults():
     text = (TOP / PAGE).read_text()
     for (crate, file), names in contracting.cited().items():
         if file.startswith("Private"):
-            yield f"a public clause cites {names[0]} of crates/{crate}/specs/{file}, which only private clauses may cite"
+            yield (
+                f"a public clause cites {names[0]} of crates/{crate}/specs/{file}, which only private clauses may cite"
+            )
         if f"`{crate}`" not in text and f"`{crate}/specs" not in text:
             yield f"{PAGE} doesn't name {crate}, of which public clauses cite {names[0]}"
 
@@ -158,7 +188,10 @@ def name_faults():
     text = (TOP / PAGE).read_text()
     for quoted in re.finditer(r"`([^`]+)`", text):
         for name in set(re.findall(r"[A-Za-z_]\w+", quoted[1])) - known:
-            yield f"{PAGE}: line {text[: quoted.start()].count(chr(10)) + 1}: no source and no definition has the name {name}"
+            yield (
+                f"{PAGE}: line {text[: quoted.start()].count(chr(10)) + 1}: no source and no definition has the name"
+                f" {name}"
+            )
 
 
 def calls_explained():

@@ -15,7 +15,14 @@ SECONDS = 60
 
 
 def help_of(program, *words):
-    ran = subprocess.run([program, *words, "--help"], stdin=subprocess.DEVNULL, stdout=subprocess.PIPE, timeout=SECONDS, check=True, env={"PATH": "/usr/bin:/bin", "COLUMNS": "200"})
+    ran = subprocess.run(
+        [program, *words, "--help"],
+        stdin=subprocess.DEVNULL,
+        stdout=subprocess.PIPE,
+        timeout=SECONDS,
+        check=True,
+        env={"PATH": "/usr/bin:/bin", "COLUMNS": "200"},
+    )
     return ran.stdout.decode()
 
 
@@ -27,7 +34,9 @@ def commands_in(text):
 
 def options_of(program, command):
     """The options of a command, as its help lists them in lines that begin with them."""
-    lines = [line for line in help_of(program, *([command] if command else [])).splitlines() if re.match(r" {2,6}-", line)]
+    lines = [
+        line for line in help_of(program, *([command] if command else [])).splitlines() if re.match(r" {2,6}-", line)
+    ]
     return {OPTION.search(line)[0] for line in lines if OPTION.search(line)}
 
 
@@ -73,13 +82,18 @@ def unnamed(name):
     """Options in the synopsis of a command which its entries of OPTIONS don't have."""
     text = (MANUALS / f"{name}.1").read_text().replace("\\-", "-")
     options = manual(name)
-    return [f"{command} {it}" for command, some in synopsis(name, text).items() for it in sorted(some - options[command])]
+    return [
+        f"{command} {it}" for command, some in synopsis(name, text).items() for it in sorted(some - options[command])
+    ]
 
 
 def completed(name, *words):
     """What the completion offers for the last of the words."""
     line = " ".join(f"'{it}'" for it in (name, *words))
-    script = f". {COMPLETIONS[name]}; COMP_WORDS=({line}); COMP_CWORD={len(words)}; _{name}; printf '%s\\n' \"${{COMPREPLY[@]}}\""
+    script = (
+        f". {COMPLETIONS[name]}; COMP_WORDS=({line}); COMP_CWORD={len(words)}; _{name}; printf '%s\\n'"
+        ' "${COMPREPLY[@]}"'
+    )
     ran = subprocess.run(["bash", "-c", script], stdout=subprocess.PIPE, timeout=SECONDS, check=True)
     return set(ran.stdout.decode().split())
 
@@ -95,7 +109,9 @@ def of_program(program, name):
     for command in sorted(set(found) & set(options)):
         yield f"the page's options of {command or 'the program'}", unlike(options[command], found[command], "options")
     yield "the page's synopsis", f"its entries of OPTIONS lack {unnamed(name)}" if unnamed(name) else None
-    missing = {"NAME", "SYNOPSIS", "DESCRIPTION", "OPTIONS", "EXIT STATUS", "FILES", "EXAMPLES"} - set(re.findall(r"^\.SH (.*)$", text, re.MULTILINE))
+    missing = {"NAME", "SYNOPSIS", "DESCRIPTION", "OPTIONS", "EXIT STATUS", "FILES", "EXAMPLES"} - set(
+        re.findall(r"^\.SH (.*)$", text, re.MULTILINE)
+    )
     yield "the page's sections", f"it lacks {missing}" if missing else None
     missing = [it for it in found if it and not re.search(rf"{name} {it}\b", section(text, "EXAMPLES"))]
     yield "the page's examples", f"none of {missing}" if missing else None

@@ -20,9 +20,11 @@ usage: tests/documents/pages.py [WORD..]      with WORDs only the checks whose n
 - Files and names between backticks are in the tree, on the pages of NAMING. Commands, placeholders
   (as NAME), what is built and paths of requests are passed over.
 - A recipe of docs/CHANGING.md names each file in which an example of it stands (RECIPES).
-  tests/gate/check shows that these four checks can fail.
+  tests/gate/check shows that these four checks can fail, and that of lines of code.
 - A comment in crates/*/src, specs and proofs, or in tests, bench, tools and examples, has at most
   100 characters a line, and so has a docstring.
+- A line of Python or JavaScript has at most 120 characters. (`black` breaks no comment, and not
+  each text.)
 - `tools/contracts` prints what the sources have (contracts.py).
 
 tests/program/check runs these checks with its own. The last line is 'N passed, M failed': pages,
@@ -41,7 +43,7 @@ from documents import contracts  # noqa: E402
 
 TOP = pathlib.Path(__file__).resolve().parent.parent.parent
 FOLDERS = ("docs", "examples", "bench", "tests")
-LONGEST = 100
+LONGEST, LONGEST_CODE = 100, 120
 FENCE, INDENT = "```", ("    ", "\t")
 QUOTED = re.compile(r"^```\w* from (\S+)$")
 LINK = re.compile(r"\[[^\]]*\]\(([^)\s]*)\)")
@@ -53,7 +55,11 @@ HELP = "crates/crush_arguments/src/command.rt"
 # help has
 HELPED = {
     "X7": ("crush_text", "TEXT_LIMIT", lambda limit: f"{limit:,}"),
-    "M7": ("crush_map", "TOTAL_WEIGHT_LIMIT", lambda limit: str((limit + 1) // 65536)),  # the first whole weight past it
+    "M7": (
+        "crush_map",
+        "TOTAL_WEIGHT_LIMIT",
+        lambda limit: str((limit + 1) // 65536),
+    ),  # the first whole weight past it
     "M15": ("crush_map", "NAME_LIMIT", lambda limit: f"{limit:,}"),
 }
 WORDS = "## Words that mean something special here"
@@ -61,34 +67,74 @@ MOST_LINES = {"README.md": 110, "docs/ARCHITECTURE.md": 130, "docs/STATUS.md": 4
 MOST_DEFINED = 25
 # how many words a page may have, or some pages together
 MOST_WORDS = (
-    (860, "README.md"), (1_960, "CHANGELOG.md"), (530, "CONTRIBUTING.md", "SECURITY.md"),
-    (2_840, "docs/PERFORMANCE.md", "docs/STATUS.md"), (4_500, "docs/ARCHITECTURE.md", "docs/DECISIONS.md"), (1_800, "docs/CHANGING.md"),
-    (2_340, "bench/README.md", "tests/ceph/README.md"), (1_260, "tests/README.md"), (360, "tests/crushplan/README.md"),
-    (2_060, "docs/BELIEVE.md"), (1_900, "docs/CLAUSES.md"), (6_200, "docs/DEFINITIONS.md"), (4_500, "docs/SERVING.md", "docs/STORE.md"),
-    (2_500, "docs/MAPS.md"), (2_500, "docs/REQUESTS.md"), (2_400, "docs/PLANNING.md"), (1_200, "docs/CRUSHPLAN.md"), (700, "docs/INCLUSTER.md"), (950, "docs/RELEASES.md"), (1_270, "examples/README.md"), (1_070, "docs/LIBRARY.md"),
+    (870, "README.md"),
+    (2_150, "CHANGELOG.md"),
+    (530, "CONTRIBUTING.md", "SECURITY.md"),
+    (2_740, "docs/PERFORMANCE.md", "docs/STATUS.md"),
+    (4_500, "docs/ARCHITECTURE.md", "docs/DECISIONS.md"),
+    (2_030, "docs/CHANGING.md"),
+    (2_420, "bench/README.md", "tests/ceph/README.md"),
+    (1_280, "tests/README.md"),
+    (360, "tests/crushplan/README.md"),
+    (2_140, "docs/BELIEVE.md"),
+    (1_900, "docs/CLAUSES.md"),
+    (6_200, "docs/DEFINITIONS.md"),
+    (4_500, "docs/SERVING.md", "docs/STORE.md"),
+    (2_500, "docs/MAPS.md"),
+    (2_500, "docs/REQUESTS.md"),
+    (2_400, "docs/PLANNING.md"),
+    (1_230, "docs/CRUSHPLAN.md"),
+    (760, "docs/INCLUSTER.md"),
+    (950, "docs/MACHINES.md"),
+    (950, "docs/RELEASES.md"),
+    (1_270, "examples/README.md"),
+    (250, "examples/machines/README.md"),
+    (1_070, "docs/LIBRARY.md"),
 )
 GENERATED = ("docs/PROOFS.md", "tests/only_tested/REFUSED.md")
 GLOSSARY, GLOSSARY_HEAD = "docs/CHANGING.md", "## Words\n"
-NAMING = ("docs/CHANGING.md", "docs/ARCHITECTURE.md", "docs/DECISIONS.md", "docs/PERFORMANCE.md", "docs/STATUS.md", "bench/README.md", "tests/README.md", "tests/ceph/README.md")
+NAMING = (
+    "docs/CHANGING.md",
+    "docs/ARCHITECTURE.md",
+    "docs/DECISIONS.md",
+    "docs/PERFORMANCE.md",
+    "docs/STATUS.md",
+    "bench/README.md",
+    "tests/README.md",
+    "tests/ceph/README.md",
+)
 CODE = re.compile(r"`([^`]+)`")
-FILE, NAME = re.compile(r"[\w./*-]+\.(?:rt|antt|py|js|md|c|json|yaml|txt|conf|edit|1)|[\w.-]+(?:/[\w.*-]+)+"), re.compile(r"[A-Za-z_][\w:]*")
+FILE, NAME = re.compile(
+    r"[\w./*-]+\.(?:rt|antt|py|js|md|c|json|yaml|txt|conf|edit|1)|[\w.-]+(?:/[\w.*-]+)+"
+), re.compile(r"[A-Za-z_][\w:]*")
 PLACEHOLDER = re.compile(r"(?:\b|_)(?:NAME|FILE|TEXT|CRATE|FUNCTION|WHAT_IT_DOES)\b|\.\.|^/|^\./|^build/|[{}]")
 SOURCES = ("crates", "tests", "tools", "web", "bench", "examples", "package")
 # of a recipe of docs/CHANGING.md: what names an example of it in sources, definitions and proofs of
 # the product, below these paths. Each such file is one that the recipe names
 RECIPES = {
     "A reading route": (r"\b[Rr]oute(::|\.)Usage\b|\b[Qq]uery(::|\.)Usage\b|\(Usage q\)", "crates"),
-    "A changing route": (r"\bOrder::RemovePool\b|\(RemovePool id\) (inventory|s)|\bMade::NoPool\b|\bRemovedPool\b", "crates"),
+    "A changing route": (
+        r"\bOrder::RemovePool\b|\(RemovePool id\) (inventory|s)|\bMade::NoPool\b|\bRemovedPool\b",
+        "crates",
+    ),
     "A column of a report": (r"\bpermille\b", "crates"),
     "A table or column of the file": (r"\bhashpspool\b", "crates/table_", "crates/tenant_tables"),
+    "A new store": (r"\bStore<FileStore<", "crates"),
+    "A tunable": (r"\bvary_r\b|\bVaryR\b|\bSetVaryR\b", "crates"),
+    "Another cache": (r"\bCached::Touched\b|\bAsked::Device\b|\bTouched, M", "crates"),
     "A bucket kind": (r"\bKind::Tree\b|\bListKind\b|\bDraw::Tree\b", "crates"),
     "A fault of maps": (r"\bM15\b", "crates"),
-    "A limit, a timeout, an option": (r"\bWAIT_SECONDS\b|\bMESSAGE_SECONDS\b|\"cache\"|--cache|\\-\\-cache", "crates", "package"),
+    "A limit, a timeout, an option": (
+        r"\bWAIT_SECONDS\b|\bMESSAGE_SECONDS\b|\"cache\"|--cache|\\-\\-cache",
+        "crates",
+        "package",
+    ),
 }
 # proofs of single functions, of whose goals a recipe says nothing
 OF_FUNCTIONS = ("Answers.antt", "Invariants.antt")
 COMMENTS = {".rt": ("//",), ".antt": ("--",)}
 TOOLS, NO_TOOLS = ("tests", "bench", "tools", "examples", "web"), {".md", ".in", ".out", ".pyc", ".json", ".script"}
+PYTHON = re.compile(r"#!.*\bpython3\b")
 LINK_ALONE = re.compile(r"^[-\s]*\[[^\]]*\]\([^)]*\)[.,;:]?$")
 
 
@@ -134,7 +180,9 @@ def wrong_quotes(blocks):
         text = source.read_text()
         if "\n" + "\n".join(lines) + "\n" not in "\n" + text:
             other = next((line for line in lines if line not in text.splitlines()), None)
-            yield f"line {number}: the block isn't in {quoted[1]}" + ("" if other is None else f", which has no line {other!r}")
+            yield f"line {number}: the block isn't in {quoted[1]}" + (
+                "" if other is None else f", which has no line {other!r}"
+            )
 
 
 def anchors(text):
@@ -195,10 +243,15 @@ def refused_words(text, refused):
     """Words of a page's prose, over ends of lines too, that the glossary refuses."""
     kept = dict(parts(text)[0])
     prose = "\n".join(kept.get(number, "") for number in range(1, max(kept, default=0) + 1))
-    prose = CODE.sub(lambda it: re.sub(r"\S", " ", it[0]), "\n".join("" if it.startswith(INDENT) else it for it in prose.split("\n")))
+    prose = CODE.sub(
+        lambda it: re.sub(r"\S", " ", it[0]), "\n".join("" if it.startswith(INDENT) else it for it in prose.split("\n"))
+    )
     for word, better in refused.items():
         for found in re.finditer(r"\b" + word.replace(" ", r"\s+") + r"\b", prose, re.IGNORECASE):
-            yield f"line {prose.count(chr(10), 0, found.start()) + 1}: {' '.join(found[0].split())!r}, for which the glossary has: {better}"
+            yield (
+                f"line {prose.count(chr(10), 0, found.start()) + 1}: {' '.join(found[0].split())!r}, for which the"
+                f" glossary has: {better}"
+            )
 
 
 def unnamed_files(recipe, example, files):
@@ -213,7 +266,12 @@ def recipe_faults(page):
     found = {}
     for it in sorted(it for folder in ("crates", "package") for it in (TOP / folder).rglob("*") if it.is_file()):
         path = it.relative_to(TOP)
-        if path.parts[0] == "package" or path.parts[2] in ("src", "specs", "proofs") and not path.parts[1].endswith("_tests") and path.parts[1] != "crush_bench":
+        if (
+            path.parts[0] == "package"
+            or path.parts[2] in ("src", "specs", "proofs")
+            and not path.parts[1].endswith("_tests")
+            and path.parts[1] != "crush_bench"
+        ):
             found[str(path)] = it.read_text(errors="replace")
     recipes = dict(part.partition("\n")[::2] for part in page.split("\n## "))
     for heading, (example, *folders) in RECIPES.items():
@@ -223,9 +281,20 @@ def recipe_faults(page):
 
 
 @functools.cache
+def source_files():
+    """The files below the folders of sources, but what is built there."""
+    return [
+        it
+        for folder in SOURCES
+        for it in (TOP / folder).rglob("*")
+        if it.is_file() and "out" not in it.relative_to(TOP).parts and it.suffix != ".pyc"
+    ]
+
+
+@functools.cache
 def tree():
     """The paths of the repository's files and folders, and the words of its sources."""
-    files = [it for folder in SOURCES for it in (TOP / folder).rglob("*") if it.is_file() and "out" not in it.relative_to(TOP).parts and it.suffix != ".pyc"]
+    files = source_files()
     paths = {f"/{it.relative_to(TOP)}" for it in [*files, *TOP.glob("*"), *TOP.glob("docs/*")]}
     sources = [*(it for it in files if it.suffix != ".md"), TOP / "Makefile", TOP / "crates.txt"]
     words = set(re.findall(r"\w+", "\n".join(it.read_text(errors="replace") for it in sources)))
@@ -317,13 +386,30 @@ def tool_faults():
                 yield f"{file.relative_to(TOP)}: line {number} is a comment of {len(line)} characters"
 
 
+def long_code(path, text):
+    """Lines that are too long in a program of Python or JavaScript; none where it is no such
+    program."""
+    if not path.endswith((".py", ".js")) and not PYTHON.match(text):
+        return
+    for number, line in enumerate(text.split("\n"), 1):
+        if len(line) > LONGEST_CODE:
+            yield f"{path}: line {number} has {len(line)} characters, and at most {LONGEST_CODE} are allowed"
+
+
+def code_faults():
+    for file in sorted(source_files()):
+        yield from long_code(str(file.relative_to(TOP)), file.read_text(errors="replace"))
+
+
 def docstring_lines(text):
     """The numbers of the lines of a program's docstrings; none where it isn't one of Python."""
     try:
         nodes = list(ast.walk(ast.parse(text)))
     except SyntaxError:
         return set()
-    owners = (it for it in nodes if isinstance(it, (ast.Module, ast.FunctionDef, ast.ClassDef)) and ast.get_docstring(it))
+    owners = (
+        it for it in nodes if isinstance(it, (ast.Module, ast.FunctionDef, ast.ClassDef)) and ast.get_docstring(it)
+    )
     return {number for it in owners for number in range(it.body[0].lineno, it.body[0].end_lineno + 1)}
 
 
@@ -342,6 +428,7 @@ def checks():
     yield "the limits in the help", help_faults()
     yield "the index of contracts", contracts.faults()
     yield "the comments of tests, measurements and tools", tool_faults()
+    yield "the lines of Python and JavaScript", code_faults()
     for crate in sorted(path.name for path in (TOP / "crates").iterdir() if path.is_dir()):
         yield f"the comments of {crate}", comment_faults(crate)
 

@@ -46,7 +46,15 @@ def commands_in(text):
 def fault(folder, command, wanted, seconds):
     """Why a command doesn't print what is shown, or None."""
     environment = {**os.environ, "CRUSHCALC": f"{folder}/crushcalc"}
-    ran = subprocess.run(["sh", "-c", command], cwd=folder, env=environment, stdin=subprocess.DEVNULL, stdout=subprocess.PIPE, stderr=subprocess.STDOUT, timeout=seconds)
+    ran = subprocess.run(
+        ["sh", "-c", command],
+        cwd=folder,
+        env=environment,
+        stdin=subprocess.DEVNULL,
+        stdout=subprocess.PIPE,
+        stderr=subprocess.STDOUT,
+        timeout=seconds,
+    )
     said = ran.stdout.decode(errors="replace")
     return None if said == wanted else f"it prints {said[:400]!r}"
 
@@ -67,5 +75,9 @@ def outcomes(program, words, seconds):
                     continue
                 yield f"{name}, command {place}", fault(folder, command, wanted, seconds)
             if document in TIDY:
-                left = sorted(str(it.relative_to(folder)) for it in pathlib.Path(folder).rglob("*") if not it.is_dir() and not it.is_symlink())
+                left = sorted(
+                    str(it.relative_to(folder))
+                    for it in pathlib.Path(folder).rglob("*")
+                    if not it.is_dir() and not it.is_symlink()
+                )
                 yield f"{name}: its commands leave no files", f"they leave {', '.join(left)}" if left else None

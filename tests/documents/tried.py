@@ -4,7 +4,8 @@ README's examples, with the unproved program that this leaves.
 
 usage: tests/documents/tried.py        takes a minute on four processors
 
-- In a copy of the repository's own files alone `make try` answers examples/first.script.
+- In a copy of the repository's own files alone `make try` answers examples/first.script, and says
+  its steps, one at least in about ten seconds.
 - The program says that it is unproved, and so does each line with the word 'proved'.
 - README's examples print what README shows, but that the line 'proved' says the program is
   unproved.
@@ -31,7 +32,10 @@ from documents import shown  # noqa: E402
 
 RT = os.environ.get("RT", "rt")
 PROGRAM, SECONDS = "build/try/crushcalc", 1800
-BUILDS = "Building build/try/crushcalc"
+BUILDS, BUILT = "Building build/try/crushcalc", "Built build/try/crushcalc in "
+# a step of the build, behind its seconds; how long it may be silent, on a busy machine too
+STEP, SILENT = re.compile(r"^ +(\d+) s  (.*)$", re.M), 20
+STEPS = ["reading the sources", "compiling by LLVM", "linking"]
 # the row of an answer that says what is proved, and its label where the program is unproved
 ROW, UNPROVED = re.compile(r"^  proved( +)", re.M), "not proved: the program is unproved"
 SOURCE, PROOF = "crates/crush_hash/src/lib.rt", "crates/crush_hash/proofs/Lib.antt"
@@ -65,6 +69,15 @@ def played(folder, told):
     replies = [line for line in told.splitlines() if re.match(r"\d{3} \{", line)]
     wanted = (folder / "examples" / "first.out").read_text().splitlines()
     return None if replies == wanted else f"it prints {told[-400:]!r}"
+
+
+def silent(told):
+    """Why `make try` doesn't say its steps on the way, each in one line, or None."""
+    found = [(int(seconds), step) for seconds, step in STEP.findall(told[told.index(BUILDS) :])]
+    times = [seconds for seconds, _ in found]
+    is_said = found[:1] == [(0, STEPS[0])] and list(dict.fromkeys(step for _, step in found)) == STEPS
+    is_often = all(after - before <= SILENT for before, after in zip(times, times[1:]))
+    return None if is_said and is_often and BUILT in told else f"it says {told[-800:]!r}"
 
 
 def proved_lines(folder):
@@ -118,6 +131,7 @@ def checks(folder):
     status, told = ran(["make", "try", f"RT={RT}"], folder)
     is_built = status == 0 and BUILDS in told
     yield "make try", played(folder, told) if is_built else f"it ends with {status}: {told[-800:]!r}"
+    yield "the steps of make try", silent(told) if is_built else "it built nothing"
     if not (folder / PROGRAM).is_file():
         yield "README's examples", "there is no program"
         return
