@@ -1,7 +1,7 @@
 //! Pools on maps, and asking a cache for the placements of their groups.
 
 ghost use Rattle.std.specs.Prelude.{◌≡◌, IfOk, true};
-ghost use Rattle.crush_writing.specs.Canonical.{canonical};
+ghost use Rattle.crush_text.specs.crush_writing.specs.Canonical.{canonical};
 ghost use Rattle.crush_pool.specs.Exceptions.{are_pairs};
 ghost use Rattle.crush_cache.specs.Caches.{KeepsNumbers, WasNumberOf};
 ghost use Rattle.crush_pool.specs.Contents.{content_of};

@@ -5,8 +5,7 @@
 use crate::imports::FIRST;
 use crush_map::Text;
 use std::alloc::{AllocError, Global};
-use tenant_core::TenantStore;
-use tenant_messages::{Bytes, Call, CallParts, Reply};
+use tenant_core::{Bytes, Call, CallParts, Reply, TenantStore};
 use tenant_service::{MemoryStore, Service};
 
 /// A method, a path and a body, and the status and the body of the reply that the rules of requests

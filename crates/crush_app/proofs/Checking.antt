@@ -5,9 +5,9 @@ use Rattle.crush_map.specs.Map.{Map}
 use Rattle.crush_map.specs.declared.draft.Device.{Device}
 use Rattle.crush_map.specs.declared.draft.Bucket.{Bucket}
 use Rattle.crush_map.specs.declared.draft.Rule.{Rule}
-use Rattle.crush_grammar.specs.declared.code.TextFault.{TextFault}
-use Rattle.crush_grammar.specs.declared.code.TextCode.TheVariants.{X7}
-use Rattle.crush_grammar.specs.Codes.{code_text}
+use Rattle.crush_text.specs.crush_grammar.specs.declared.code.TextFault.{TextFault}
+use Rattle.crush_text.specs.crush_grammar.specs.declared.code.TextCode.TheVariants.{X7}
+use Rattle.crush_text.specs.crush_grammar.specs.Codes.{code_text}
 use Rattle.crush_text.specs.MapText.{IsShort, IsTextOf, HasFirstFault, IsRefusedFor}
 use Rattle.crush_text.specs.declared.limits.TheConstants.{TEXT_LIMIT}
 use Rattle.tenant_service.specs.Input.{OfInput}

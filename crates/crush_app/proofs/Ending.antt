@@ -3,8 +3,8 @@ use Rattle.std.proofs.Common.{◌≡◌, ℕ, List, Bool, true, false, Option, S
 use Rattle.std.specs.Io.KnownBytes.{Keeps}
 use Rattle.std.specs.declared.alloc.AllocError.{AllocError}
 use Rattle.tenant_core.specs.States.{Outcomes, States}
-use Rattle.tenant_messages.specs.declared.call.Call.{Call}
-use Rattle.tenant_messages.specs.declared.reply.Reply.{Reply}
+use Rattle.tenant_core.specs.tenant_messages.specs.declared.call.Call.{Call}
+use Rattle.tenant_core.specs.tenant_messages.specs.declared.reply.Reply.{Reply}
 use Rattle.crush_app.proofs.Inputs.{of_script}
 use Rattle.crush_app.proofs.Playing.{headline_latched, headline_part, headline_whole}
 use Rattle.crush_app.specs.End.{EndsScript, IsTooLong, ServesNothing, ServesScript}

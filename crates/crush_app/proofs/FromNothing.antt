@@ -4,8 +4,8 @@ use Rattle.std.proofs.lemmas.Bool.{false≢true}
 use Rattle.std.specs.Prelude.{⊤}
 use Rattle.std.specs.declared.alloc.AllocError.{AllocError}
 use Rattle.tenant_core.specs.States.{States, Headline, MeetsDefinition, Outcomes}
-use Rattle.tenant_messages.specs.declared.call.Call.{Call}
-use Rattle.tenant_messages.specs.declared.reply.Reply.{Reply}
+use Rattle.tenant_core.specs.tenant_messages.specs.declared.call.Call.{Call}
+use Rattle.tenant_core.specs.tenant_messages.specs.declared.reply.Reply.{Reply}
 use Rattle.crush_app.specs.End.{EndsScript, LatchesAs}
 use Rattle.crush_app.specs.FromNothing.{HeadlineFromNothing, MeetsFromNothing, PlaysFromNothing, PlaysScriptFromNothing, PlaysToFromNothing, PlaysUpToFromNothing, WritesHeadlineFromNothing}
 use Rattle.crush_app.specs.Play.{Plays, PlaysScript, PlaysTo, PlaysUpTo, WritesHeadline}

@@ -2,13 +2,13 @@
 use Rattle.std.proofs.Common.{◌≡◌, ◌∙◌, ◌↔◌, ap, sym, arith, ℕ, ◌<◌, inl, inr, List, [], ◌∷◌, length, take, slice_get, Option, Some, None, option_map, IsSomeAnd}
 use Rattle.crush_map.specs.declared.fault.FaultCode.{FaultCode}
 use Rattle.crush_map.specs.Faults.{or_else}
-use Rattle.crush_grammar.specs.Words.{Word, words}
-use Rattle.crush_grammar.specs.Fronts.{Breaks, HasCode, last_line}
-use Rattle.crush_grammar.specs.declared.code.TextCode.{TextCode}
-use Rattle.crush_grammar.specs.declared.code.TextCode.TheVariants.{X1, X2, X3, X4, X5, X6, X7, Map}
-use Rattle.crush_grammar.specs.declared.code.TextFault.{TextFault}
-use Rattle.crush_grammar.specs.declared.declaration.Declaration.{Declaration}
-use Rattle.crush_grammar.specs.declared.declaration.Declaration.TheVariants.{Tunable, Device, TypeName, Bucket, Rule}
+use Rattle.crush_text.specs.crush_grammar.specs.Words.{Word, words}
+use Rattle.crush_text.specs.crush_grammar.specs.Fronts.{Breaks, HasCode, last_line}
+use Rattle.crush_text.specs.crush_grammar.specs.declared.code.TextCode.{TextCode}
+use Rattle.crush_text.specs.crush_grammar.specs.declared.code.TextCode.TheVariants.{X1, X2, X3, X4, X5, X6, X7, Map}
+use Rattle.crush_text.specs.crush_grammar.specs.declared.code.TextFault.{TextFault}
+use Rattle.crush_text.specs.crush_grammar.specs.declared.declaration.Declaration.{Declaration}
+use Rattle.crush_text.specs.crush_grammar.specs.declared.declaration.Declaration.TheVariants.{Tunable, Device, TypeName, Bucket, Rule}
 use Rattle.crush_text.specs.declared.limits.TheConstants.{TEXT_LIMIT}
 use Rattle.crush_text.specs.Judging.{Declared, nothing_declared, declared, declare, at_line, declaration_fault, declared_bucket_fault, fault_from, declared_fault, last_fault}
 use Rattle.crush_text.specs.MapText.{IsRefusedFor}

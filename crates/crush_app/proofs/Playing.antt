@@ -9,8 +9,8 @@ use Rattle.tenant_service.specs.Served.{LeavesSession}
 use Rattle.tenant_service.proofs.OneSession.{Rests}
 use Rattle.crush_app.specs.Private.Latching.{PlaysLatching}
 use Rattle.tenant_core.specs.StoreReply.{IsUnavailable}
-use Rattle.tenant_messages.specs.declared.call.Call.{Call}
-use Rattle.tenant_messages.specs.declared.reply.Reply.{Reply}
+use Rattle.tenant_core.specs.tenant_messages.specs.declared.call.Call.{Call}
+use Rattle.tenant_core.specs.tenant_messages.specs.declared.reply.Reply.{Reply}
 use Rattle.tenant_core.proofs.Running.{run_both, run_latched, run_one, run_none}
 use Rattle.tenant_service.specs.Writing.{AppendsPart}
 use Rattle.crush_app.specs.Play.{Plays, PlaysUntilLatched, PlaysUpTo, WritesHeadline}

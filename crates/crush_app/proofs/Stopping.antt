@@ -5,8 +5,8 @@ use Rattle.std.specs.Str.Lines.{lines}
 use Rattle.tenant_core.specs.States.{Outcomes, States}
 use Rattle.tenant_service.proofs.Served.{session_both, session_open}
 use Rattle.tenant_service.specs.Served.{IsSession}
-use Rattle.tenant_messages.specs.declared.call.Call.{Call}
-use Rattle.tenant_messages.specs.declared.reply.Reply.{Reply}
+use Rattle.tenant_core.specs.tenant_messages.specs.declared.call.Call.{Call}
+use Rattle.tenant_core.specs.tenant_messages.specs.declared.reply.Reply.{Reply}
 use Rattle.tenant_service.proofs.OneSession.{Rests}
 use Rattle.tenant_service.proofs.Written.{appends_both}
 use Rattle.tenant_service.specs.Writing.{AppendsPart, AppendsUpTo}

@@ -2,9 +2,9 @@
 use Rattle.std.specs.Prelude.{ℕ, ◌≡◌, List, [], ◌∷◌, ◌++◌, length, Result, Ok, Err, ⊤, ◌⊎◌, codes, decimal}
 use Rattle.std.specs.declared.alloc.AllocError.{AllocError}
 use Rattle.crush_map.specs.Map.{Map}
-use Rattle.crush_grammar.specs.Codes.{code_text}
+use Rattle.crush_text.specs.crush_grammar.specs.Codes.{code_text}
 use Rattle.crush_text.specs.MapText.{IsShort, IsTextOf, IsRefusedFor}
-use Rattle.crush_grammar.specs.declared.code.TextFault.{TextFault}
+use Rattle.crush_text.specs.crush_grammar.specs.declared.code.TextFault.{TextFault}
 use Rattle.crush_app.specs.declared.check.CheckEnd.{CheckEnd}
 use Rattle.crush_app.specs.declared.check.CheckEnd.TheVariants.{Accepted, Refused, ReadFault, WriteFault}
 

@@ -2,7 +2,7 @@
 use Rattle.std.specs.Prelude.{ℕ, ◌≡◌, ◌+◌, ◌<◌, List, length, Bool, true, false, Option, IfSome, Result, Ok, Err, ⊤}
 use Rattle.std.specs.Io.KnownBytes.{Keeps}
 use Rattle.std.specs.declared.alloc.AllocError.{AllocError}
-use Rattle.tenant_messages.specs.declared.call.Call.{Call}
+use Rattle.tenant_core.specs.tenant_messages.specs.declared.call.Call.{Call}
 use Rattle.tenant_service.specs.Input.{DropsFirst}
 use Rattle.crush_app.specs.Script.{OfScript, messages}
 use Rattle.crush_app.specs.declared.limits.TheConstants.{SCRIPT_LIMIT}

@@ -3,8 +3,8 @@ use Rattle.std.specs.Prelude.{ℕ, ◌≡◌, List, length, Option, None}
 use Rattle.std.specs.List.{All}
 use Rattle.tenant_core.specs.Alone.{alone, replies_answered, calls_answered}
 use Rattle.tenant_core.specs.States.{ServesCallsOfNobody, NamesCause}
-use Rattle.tenant_messages.specs.declared.call.Call.{Call}
-use Rattle.tenant_messages.specs.declared.reply.Reply.{Reply}
+use Rattle.tenant_core.specs.tenant_messages.specs.declared.call.Call.{Call}
+use Rattle.tenant_core.specs.tenant_messages.specs.declared.reply.Reply.{Reply}
 use Rattle.crush_app.specs.Play.{PlaysBy, PlaysUpToBy, WritesFirst}
 use Rattle.crush_app.specs.declared.play.ScriptEnd.{ScriptEnd}
 use Rattle.crush_app.specs.declared.play.ScriptEnd.TheVariants.{Done, Latched, TooLong, ReadFault, WriteFault}

@@ -4,8 +4,8 @@ use Rattle.std.specs.Io.KnownBytes.{Appends}
 use Rattle.tenant_core.specs.States.{States, Outcomes, Headline, MeetsDefinition}
 use Rattle.tenant_core.specs.StoreReply.{IsUnavailable}
 use Rattle.tenant_service.specs.Served.{IsSession, LeavesSession}
-use Rattle.tenant_messages.specs.declared.call.Call.{Call}
-use Rattle.tenant_messages.specs.declared.reply.Reply.{Reply}
+use Rattle.tenant_core.specs.tenant_messages.specs.declared.call.Call.{Call}
+use Rattle.tenant_core.specs.tenant_messages.specs.declared.reply.Reply.{Reply}
 use Rattle.tenant_service.specs.Writing.{AppendsUpTo}
 use Rattle.crush_app.specs.Script.{calls_in, output, wire}
 use Rattle.crush_app.specs.declared.play.ScriptEnd.{ScriptEnd}

@@ -6,10 +6,10 @@ use Rattle.std.specs.Str.Lines.{lines}
 use Rattle.tenant_service.specs.Input.{OfInput}
 use Rattle.tenant_service.specs.Writing.{shown_body}
 use Rattle.crush_app.specs.declared.limits.TheConstants.{SCRIPT_LIMIT}
-use Rattle.tenant_messages.specs.Reply.{reply, refused}
-use Rattle.tenant_messages.specs.declared.call.Call.{Call}
-use Rattle.tenant_messages.specs.declared.reply.Reply.{Reply}
-use Rattle.tenant_messages.specs.declared.reply.Problem.TheVariants.{BadRequest}
+use Rattle.tenant_core.specs.tenant_messages.specs.Reply.{reply, refused}
+use Rattle.tenant_core.specs.tenant_messages.specs.declared.call.Call.{Call}
+use Rattle.tenant_core.specs.tenant_messages.specs.declared.reply.Reply.{Reply}
+use Rattle.tenant_core.specs.tenant_messages.specs.declared.reply.Problem.TheVariants.{BadRequest}
 
 -- ---- from bytes to calls
 

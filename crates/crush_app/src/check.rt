@@ -4,8 +4,8 @@ ghost use Rattle.std.specs.Prelude.{◌≡◌, ◌≤◌, ◌<◌, ◌+◌, ◌�
 ghost use Rattle.std.specs.Io.KnownBytes.{Keeps as KeepsBytes, Appends};
 ghost use Rattle.crush_map.specs.Map.{Map};
 ghost use Rattle.crush_text.specs.MapText.{IsShort, IsTextOf, IsRefusedFor};
-ghost use Rattle.crush_grammar.specs.declared.code.TextCode.TheVariants.{X7};
-ghost use Rattle.crush_grammar.specs.declared.code.TextFault as spec_fault;
+ghost use Rattle.crush_text.specs.crush_grammar.specs.declared.code.TextCode.TheVariants.{X7};
+ghost use Rattle.crush_text.specs.crush_grammar.specs.declared.code.TextFault as spec_fault;
 ghost use Rattle.crush_text.specs.declared.limits.TheConstants.{TEXT_LIMIT};
 ghost use Rattle.tenant_service.specs.Input.{OfInput, DropsFirst};
 ghost use Rattle.tenant_service.specs.Writing.{AppendsPart};

@@ -2,7 +2,7 @@
 
 ghost use Rattle.std.specs.Prelude.{◌≡◌, ◌<◌, ◌∷◌, [], Ok, true, false, length, IsTrue, option_map};
 ghost use Rattle.std.specs.Bool.{IsFalse};
-ghost use Rattle.tenant_messages.specs.CallParts.{call_of};
+ghost use Rattle.tenant_core.specs.tenant_messages.specs.CallParts.{call_of};
 ghost use Rattle.crush_app.specs.End.{EndsScript, LatchesAs};
 ghost use Rattle.crush_app.specs.Play.{Plays, PlaysScript, PlaysUpTo, WritesSession};
 ghost use Rattle.crush_app.specs.Private.Ending.{IsServed};
@@ -15,8 +15,7 @@ use crate::script::{call_of_line, first_line};
 use crate::wire::write_line;
 use std::alloc::{AllocError, Global};
 use std::io::{Read, Write};
-use tenant_core::TenantStore;
-use tenant_messages::{CallParts, Problem, Reply, refused};
+use tenant_core::{CallParts, Problem, Reply, TenantStore, refused};
 use tenant_service::Service;
 
 /// How a script ended.

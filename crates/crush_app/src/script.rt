@@ -3,10 +3,10 @@
 ghost use Rattle.std.specs.Prelude.{◌≡◌, ◌==◌, ◌<◌, ◌∷◌, position, length, option_map};
 ghost use Rattle.std.specs.List.{before_first, after_first, list_any};
 ghost use Rattle.std.specs.Str.Lines.{lines, strip_carriage_return};
-ghost use Rattle.tenant_messages.specs.CallParts.{call_of};
+ghost use Rattle.tenant_core.specs.tenant_messages.specs.CallParts.{call_of};
 ghost use Rattle.crush_app.specs.Script as spec;
 
-use tenant_messages::CallParts;
+use tenant_core::CallParts;
 
 /// Returns the index of the first byte in `bytes` that is `byte`, or `None`. Allocates nothing.
 fn index_of(bytes: &[u8], byte: u8) -> Option<usize>

@@ -9,7 +9,7 @@ ghost use Rattle.crush_app.specs.declared.line.TheConstants.{LINE_ROOM};
 
 use crate::line::{LINE_ROOM, Line};
 use std::io::Write;
-use tenant_messages::Reply;
+use tenant_core::Reply;
 use tenant_service::{shown_body, write_whole};
 
 /// Writes `first` and then `second`, and returns whether all bytes were written. Allocates nothing.

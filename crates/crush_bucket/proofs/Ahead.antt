@@ -1,6 +1,6 @@
 -- What buckets pick side by side is what is picked by their numbers.
 use Rattle.std.proofs.Common.{◌≡◌, ℕ, List, Option, None, Some, IfSome, subst}
-use Rattle.crush_types.specs.declared.ItemId.{ItemId}
+use Rattle.crush_map.specs.crush_types.specs.declared.ItemId.{ItemId}
 use Rattle.crush_bucket.specs.Bucket.{BucketView, IsItemOf}
 use Rattle.crush_bucket.specs.Eight.{IsPickedBy}
 use Rattle.crush_bucket.specs.Pick.{pick}

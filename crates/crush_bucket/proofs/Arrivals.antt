@@ -6,7 +6,7 @@ use Rattle.std.proofs.Math.Nat.{div-le_self, mul-le-mul_left, div-mul-le_self}
 use Rattle.crush_hash.specs.Hash.{hash3}
 use Rattle.crush_ln.specs.Log.{delay}
 use Rattle.crush_ln.proofs.Rising.{delay_small}
-use Rattle.crush_types.specs.declared.ItemId.{ItemId}
+use Rattle.crush_map.specs.crush_types.specs.declared.ItemId.{ItemId}
 use Rattle.crush_bucket.specs.Bucket.{WeightedItem, word}
 use Rattle.crush_bucket.specs.Kinds.{never, time_of, arrival}
 

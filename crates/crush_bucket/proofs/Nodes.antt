@@ -6,7 +6,7 @@ use Rattle.std.proofs.lemmas.List.{get_or_at, length-append, append_assoc}
 use Rattle.std.proofs.lemmas.Bool.{lt-ltb}
 use Rattle.std.proofs.lemmas.Bool.Decides.{nat_tests}
 use Rattle.crush_hash.specs.Hash.{hash4}
-use Rattle.crush_types.specs.declared.ItemId.{ItemId}
+use Rattle.crush_map.specs.crush_types.specs.declared.ItemId.{ItemId}
 use Rattle.crush_bucket.specs.Bucket.{WeightedItem, word, weight_within}
 use Rattle.crush_bucket.specs.Kinds.{label, tree_draw, place_within}
 use Rattle.crush_bucket.specs.Private.Kept.{HasNodes, node_weights}

@@ -5,9 +5,9 @@ use Rattle.std.proofs.lemmas.Bool.Decides.{nat_tests}
 use Rattle.std.proofs.lemmas.List.{get_or-drop, get_or_default, length-drop}
 use Rattle.std.proofs.lemmas.List.Elements.{All-filter}
 use Rattle.std.proofs.lemmas.List.Folds.{list_any_at}
-use Rattle.crush_types.specs.declared.ItemId.{ItemId}
-use Rattle.crush_types.specs.declared.Kind.{Kind}
-use Rattle.crush_types.specs.declared.Kind.TheVariants.{Uniform, List as ListKind, Tree, Straw2}
+use Rattle.crush_map.specs.crush_types.specs.declared.ItemId.{ItemId}
+use Rattle.crush_map.specs.crush_types.specs.declared.Kind.{Kind}
+use Rattle.crush_map.specs.crush_types.specs.declared.Kind.TheVariants.{Uniform, List as ListKind, Tree, Straw2}
 use Rattle.crush_bucket.specs.Bucket.{BucketView, WeightedItem, no_item, item_at, weight_at, IsItemOf}
 use Rattle.crush_bucket.specs.Kinds.{list_pick, tree_pick, straw2_pick}
 use Rattle.crush_bucket.specs.Pick.{pick, pick_as}

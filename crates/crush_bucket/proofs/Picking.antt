@@ -8,9 +8,9 @@ use Rattle.crush_bucket.specs.Laws.{PicksBelow, HasNoDeviceBucket, IsGreatest, N
 use Rattle.crush_bucket.specs.Tables.{TypedBucket, TablesView, tables_of, typed_bucket, no_bucket, bucket_at, type_at, pick_at}
 use Rattle.crush_bucket.proofs.Numbered.{numbered_within}
 use Rattle.crush_bucket.proofs.Validity.{HasSoundBuckets, sound_at, no_declaration, is_laid}
-use Rattle.crush_types.specs.declared.ItemId.{ItemId}
-use Rattle.crush_types.specs.declared.Kind.{Kind}
-use Rattle.crush_types.specs.declared.Kind.TheVariants.{Uniform, List as ListKind, Tree, Straw2}
+use Rattle.crush_map.specs.crush_types.specs.declared.ItemId.{ItemId}
+use Rattle.crush_map.specs.crush_types.specs.declared.Kind.{Kind}
+use Rattle.crush_map.specs.crush_types.specs.declared.Kind.TheVariants.{Uniform, List as ListKind, Tree, Straw2}
 use Rattle.crush_bucket.specs.Bucket.{BucketView, WeightedItem, item_at, IsItemOf}
 use Rattle.crush_bucket.specs.Kinds.{uniform_pick, takes, greatest, list_pick, place_within, height_of, tree_pick, straw2_pick, straw2_place}
 use Rattle.crush_hash.specs.Permutation.{permutation}

@@ -9,11 +9,11 @@ use Rattle.std.proofs.lemmas.List.Sums.{AllPass-from_list_all}
 use Rattle.std.proofs.lemmas.Option.{slice_get-get_or}
 use Rattle.crush_map.specs.declared.draft.Bucket.{Bucket}
 use Rattle.crush_map.specs.declared.draft.Device.{Device}
-use Rattle.crush_types.specs.declared.ItemId.{ItemId}
-use Rattle.crush_types.specs.declared.Kind.TheVariants.{Uniform}
+use Rattle.crush_map.specs.crush_types.specs.declared.ItemId.{ItemId}
+use Rattle.crush_map.specs.crush_types.specs.declared.Kind.TheVariants.{Uniform}
 use Rattle.crush_map.specs.Faults.{is_bucket_id}
-use Rattle.crush_types.specs.Kinds.{is_uniform}
-use Rattle.crush_types.specs.Weights.{has_equal_weights}
+use Rattle.crush_map.specs.crush_types.specs.Kinds.{is_uniform}
+use Rattle.crush_map.specs.crush_types.specs.Weights.{has_equal_weights}
 use Rattle.crush_map.specs.Map.{Map}
 use Rattle.crush_map.specs.Sound as sound
 use Rattle.crush_bucket.specs.Bucket.{BucketView, WeightedItem, item_at, no_item, HasEqualWeights}

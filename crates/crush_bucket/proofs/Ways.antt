@@ -3,8 +3,8 @@ use Rattle.std.proofs.Common.{◌≡◌, ℕ, suc, ◌+◌, ◌-◌, ◌/◌, �
 use Rattle.std.proofs.Math.Nat.{pow-succ'}
 use Rattle.std.proofs.lemmas.Nat.{pow_pos}
 use Rattle.crush_hash.specs.Hash.{hash4}
-use Rattle.crush_types.specs.declared.ItemId.{ItemId}
-use Rattle.crush_types.specs.declared.Kind.TheVariants.{Tree}
+use Rattle.crush_map.specs.crush_types.specs.declared.ItemId.{ItemId}
+use Rattle.crush_map.specs.crush_types.specs.declared.Kind.TheVariants.{Tree}
 use Rattle.crush_bucket.specs.Bucket.{BucketView, word, item_at, IsItemOf}
 use Rattle.crush_bucket.specs.Kinds.{tree_pick}
 use Rattle.crush_bucket.specs.Pick.{pick}

@@ -7,7 +7,7 @@ use Rattle.std.proofs.lemmas.Bool.{lt-ltb}
 use Rattle.std.proofs.lemmas.Bool.Decides.{nat_tests}
 use Rattle.std.proofs.lemmas.List.Sums.{sum_by-cons}
 use Rattle.crush_hash.specs.Hash.{hash4}
-use Rattle.crush_types.specs.declared.ItemId.{ItemId}
+use Rattle.crush_map.specs.crush_types.specs.declared.ItemId.{ItemId}
 use Rattle.crush_bucket.specs.Bucket.{WeightedItem, word, at, item_at, weight_at, weight_within, total_weight}
 use Rattle.crush_bucket.specs.Kinds.{takes, greatest, list_place, list_pick, label, tree_draw, height_of, place_within, tree_pick, straw2_place, straw2_pick}
 use Rattle.crush_bucket.specs.Laws.{IsGreatest, NonePasses}

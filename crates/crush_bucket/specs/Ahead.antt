@@ -1,6 +1,6 @@
 -- What is picked from eight buckets of a map at once, each for an input of its own.
 use Rattle.std.specs.Prelude.{◌≡◌, ℕ, ◌<◌, List, slice_index, slice_index_or}
-use Rattle.crush_types.specs.declared.ItemId.{ItemId}
+use Rattle.crush_map.specs.crush_types.specs.declared.ItemId.{ItemId}
 use Rattle.crush_bucket.specs.Bucket.{IsItemOf}
 use Rattle.crush_hash.specs.Permutation.{no_id}
 use Rattle.crush_bucket.specs.Tables.{TablesView, bucket_at, pick_at}

@@ -1,6 +1,6 @@
 -- A list bucket with one more item at its end.
 use Rattle.std.specs.Prelude.{◌≡◌, [], ◌∷◌, ◌++◌}
-use Rattle.crush_types.specs.declared.Kind.TheVariants.{List}
+use Rattle.crush_map.specs.crush_types.specs.declared.Kind.TheVariants.{List}
 use Rattle.crush_bucket.specs.Bucket.{WeightedItem, BucketView}
 
 abbrev pub IsList : BucketView → Type 0

@@ -1,10 +1,10 @@
 -- A bucket of a CRUSH map, as its pick sees it.
 use Rattle.std.specs.Prelude.{◌≡◌, ℕ, ◌<◌, ◌^◌, List, length, take, drop, slice_index_or, SomeIndex, All, pos}
-pub use Rattle.crush_types.specs.Weights.{total_weight}
+pub use Rattle.crush_map.specs.crush_types.specs.Weights.{total_weight}
 pub use Rattle.crush_hash.specs.Permutation.{word}
-use Rattle.crush_types.specs.declared.ItemId.{ItemId}
-use Rattle.crush_types.specs.declared.Weight.{Weight}
-use Rattle.crush_types.specs.declared.Kind.{Kind}
+use Rattle.crush_map.specs.crush_types.specs.declared.ItemId.{ItemId}
+use Rattle.crush_map.specs.crush_types.specs.declared.Weight.{Weight}
+use Rattle.crush_map.specs.crush_types.specs.declared.Kind.{Kind}
 
 -- an item of a bucket, with its weight
 abbrev pub WeightedItem : Type 0

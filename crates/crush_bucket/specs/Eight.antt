@@ -1,6 +1,6 @@
 -- What eight buckets pick, side by side.
 use Rattle.std.specs.Prelude.{◌≡◌, ℕ}
-use Rattle.crush_types.specs.declared.ItemId.{ItemId}
+use Rattle.crush_map.specs.crush_types.specs.declared.ItemId.{ItemId}
 use Rattle.crush_bucket.specs.Bucket.{BucketView, IsItemOf}
 use Rattle.crush_bucket.specs.Pick.{pick}
 

@@ -4,7 +4,7 @@ use Rattle.std.specs.Prelude.{ℕ, zero, suc, ◌+◌, ◌-◌, ◌*◌, ◌/◌
 use Rattle.std.specs.List.{list_all, position_or_len}
 use Rattle.crush_hash.specs.Hash.{hash3, hash4}
 use Rattle.crush_ln.specs.Log.{delay}
-use Rattle.crush_types.specs.declared.ItemId.{ItemId}
+use Rattle.crush_map.specs.crush_types.specs.declared.ItemId.{ItemId}
 use Rattle.crush_bucket.specs.Bucket.{WeightedItem, word, item_at, weight_at, weight_within}
 use Rattle.crush_hash.specs.Permutation.{permutation}
 

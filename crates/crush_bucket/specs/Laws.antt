@@ -1,6 +1,6 @@
 -- What the laws say of the definitions, and of the tables of a map.
 use Rattle.std.specs.Prelude.{◌≡◌, ◌≢◌, ℕ, ◌<◌, length, Some, Bool, true, false}
-use Rattle.crush_types.specs.declared.ItemId.{ItemId}
+use Rattle.crush_map.specs.crush_types.specs.declared.ItemId.{ItemId}
 use Rattle.crush_bucket.specs.Tables.{TablesView, pick_at, size_at, type_at, bucket_numbered, IsBelow}
 
 -- a bucket that has items picks a device, or a bucket of a smaller number

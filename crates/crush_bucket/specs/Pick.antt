@@ -1,8 +1,8 @@
 -- The pick of a bucket.
 use Rattle.std.specs.Prelude.{ℕ, ◌%◌, length}
-use Rattle.crush_types.specs.declared.ItemId.{ItemId}
-use Rattle.crush_types.specs.declared.Kind.{Kind}
-use Rattle.crush_types.specs.declared.Kind.TheVariants.{Uniform, List, Tree, Straw2}
+use Rattle.crush_map.specs.crush_types.specs.declared.ItemId.{ItemId}
+use Rattle.crush_map.specs.crush_types.specs.declared.Kind.{Kind}
+use Rattle.crush_map.specs.crush_types.specs.declared.Kind.TheVariants.{Uniform, List, Tree, Straw2}
 use Rattle.crush_bucket.specs.Bucket.{BucketView}
 use Rattle.crush_hash.specs.Permutation.{PermView, Remembered, asked}
 use Rattle.crush_bucket.specs.Kinds.{uniform_pick, list_pick, tree_pick, straw2_pick}

@@ -1,10 +1,10 @@
 -- The items that a bucket can pick, whatever the input.
 use Rattle.std.specs.Prelude.{◌≡◌, ◌<◌, ◌-◌, ◌&&◌, nat_lt, not, Bool, if◌then◌else◌, List, SomeIndex, length, take, drop}
 use Rattle.std.specs.List.{filter, list_any}
-use Rattle.crush_types.specs.declared.ItemId.{ItemId}
-use Rattle.crush_types.specs.declared.Kind.{Kind}
-use Rattle.crush_types.specs.declared.Kind.TheVariants.{Uniform, List as ListKind, Tree, Straw2}
-use Rattle.crush_types.specs.Kinds.{is_uniform}
+use Rattle.crush_map.specs.crush_types.specs.declared.ItemId.{ItemId}
+use Rattle.crush_map.specs.crush_types.specs.declared.Kind.{Kind}
+use Rattle.crush_map.specs.crush_types.specs.declared.Kind.TheVariants.{Uniform, List as ListKind, Tree, Straw2}
+use Rattle.crush_map.specs.crush_types.specs.Kinds.{is_uniform}
 use Rattle.crush_bucket.specs.Bucket.{WeightedItem, BucketView, item_at, weight_at}
 
 -- whether an item weighs something

@@ -1,6 +1,6 @@
 -- What the laws of straw2 buckets say of the definitions.
 use Rattle.std.specs.Prelude.{◌≡◌, ◌≢◌, ℕ, ◌<◌, ◌≤◌, List, length, SomeIndex}
-use Rattle.crush_types.specs.declared.Kind.TheVariants.{Straw2}
+use Rattle.crush_map.specs.crush_types.specs.declared.Kind.TheVariants.{Straw2}
 use Rattle.crush_bucket.specs.Bucket.{WeightedItem, BucketView, at, item_at, weight_at}
 use Rattle.crush_bucket.specs.Kinds.{arrival}
 

@@ -12,7 +12,7 @@ use crate::straw2::straw2_item;
 use crate::tree::{Tree, TreeRef};
 use crate::uniform::asked_place;
 use crush_hash::{Perm, Perms};
-use crush_types::{ItemId, Kind, Weight};
+use crush_map::{ItemId, Kind, Weight};
 use std::alloc::{AllocError, Global};
 use std::marker::Model;
 

@@ -4,7 +4,7 @@ ghost use Rattle.std.specs.Prelude.{◌≡◌};
 ghost use Rattle.std.specs.List.{list_any};
 ghost use Rattle.crush_bucket.specs.Pickable as spec;
 
-use crush_types::{ItemId, Kind, Weight};
+use crush_map::{ItemId, Kind, Weight};
 
 /// Returns whether some item weighs something.
 fn some_weighs(items: &[(ItemId, Weight)]) -> bool

@@ -5,7 +5,7 @@ ghost use Rattle.std.specs.Prelude.{◌≡◌, ◌<◌, ◌≤◌, ◌+◌, ◌-
 ghost use Rattle.crush_bucket.specs.Private.Descent.{child, lane_below, down_by, labels};
 
 use crush_hash::{hash4, hash4_four, hash4_lanes};
-use crush_types::ItemId;
+use crush_map::ItemId;
 
 /// Returns how many places a range of the height `height` has.
 pub(crate) fn places(height: u32) -> usize

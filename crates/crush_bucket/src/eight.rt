@@ -7,7 +7,7 @@ ghost use Rattle.crush_hash.specs.Permutation.{no_id};
 use crate::any::AnyBucket;
 use crate::uniform_lanes::pick_uniforms;
 use crate::walks::pick_trees;
-use crush_types::{ItemId, Kind};
+use crush_map::{ItemId, Kind};
 
 /// Returns whether it is worth asking buckets of the kind `kind` to pick side by side. It changes
 /// no answer.

@@ -10,8 +10,7 @@ ghost use Rattle.crush_bucket.specs.Pick.{pick};
 ghost use Rattle.crush_bucket.specs.Pickable.{pickable, IsWeighed};
 
 use crush_hash::laws::permutation_has_each_place;
-use crush_map::buckets_are_sound;
-use crush_types::Kind;
+use crush_map::{Kind, buckets_are_sound};
 
 /// On the tables of a map each bucket picks devices and buckets of smaller numbers alone.
 pub fn buckets_of_a_map_pick_below()

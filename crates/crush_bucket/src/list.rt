@@ -6,7 +6,7 @@ ghost use Rattle.crush_bucket.specs.Kinds.{list_pick, list_place, greatest, take
 ghost use Rattle.crush_bucket.specs.Private.Kept.{AreSums};
 
 use crush_hash::hash4_lanes;
-use crush_types::{ItemId, Weight};
+use crush_map::{ItemId, Weight};
 use std::alloc::{AllocError, Global};
 
 /// Picks the item of a list bucket, which has the sums of its weights up to each place.

@@ -6,7 +6,7 @@ ghost use Rattle.crush_bucket.specs.Bucket.{HasEqualWeights, total_weight};
 use crate::any::AnyBucket;
 use crate::picker::Picker;
 use crush_hash::Perm;
-use crush_types::{ItemId, Kind, Weight};
+use crush_map::{ItemId, Kind, Weight};
 use std::alloc::{AllocError, Global};
 use std::marker::Model;
 
@@ -20,7 +20,7 @@ pub struct UniformBucket {
 impl Model for UniformBucket {
     ghost use Rattle.std.specs.Prelude.{◌≡◌, ◌<◌, length};
     ghost use Rattle.crush_bucket.specs.Bucket.{BucketView};
-    ghost use Rattle.crush_types.specs.declared.Kind.TheVariants.{Uniform};
+    ghost use Rattle.crush_map.specs.crush_types.specs.declared.Kind.TheVariants.{Uniform};
 
     ghost Value = { BucketView };
 
@@ -89,7 +89,7 @@ pub struct ListBucket {
 impl Model for ListBucket {
     ghost use Rattle.std.specs.Prelude.{◌≡◌, ◌<◌, length};
     ghost use Rattle.crush_bucket.specs.Bucket.{BucketView};
-    ghost use Rattle.crush_types.specs.declared.Kind.TheVariants.{List};
+    ghost use Rattle.crush_map.specs.crush_types.specs.declared.Kind.TheVariants.{List};
 
     ghost Value = { BucketView };
 
@@ -157,7 +157,7 @@ pub struct TreeBucket {
 impl Model for TreeBucket {
     ghost use Rattle.std.specs.Prelude.{◌≡◌, ◌<◌, length};
     ghost use Rattle.crush_bucket.specs.Bucket.{BucketView};
-    ghost use Rattle.crush_types.specs.declared.Kind.TheVariants.{Tree};
+    ghost use Rattle.crush_map.specs.crush_types.specs.declared.Kind.TheVariants.{Tree};
 
     ghost Value = { BucketView };
 
@@ -225,7 +225,7 @@ pub struct Straw2Bucket {
 impl Model for Straw2Bucket {
     ghost use Rattle.std.specs.Prelude.{◌≡◌, ◌<◌, length};
     ghost use Rattle.crush_bucket.specs.Bucket.{BucketView};
-    ghost use Rattle.crush_types.specs.declared.Kind.TheVariants.{Straw2};
+    ghost use Rattle.crush_map.specs.crush_types.specs.declared.Kind.TheVariants.{Straw2};
 
     ghost Value = { BucketView };
 

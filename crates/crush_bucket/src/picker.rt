@@ -6,7 +6,7 @@ ghost use Rattle.crush_bucket.specs.Pick.{pick, perm_of, after_pick};
 ghost use Rattle.crush_hash.specs.Permutation.{no_id};
 
 use crush_hash::Perm;
-use crush_types::ItemId;
+use crush_map::ItemId;
 
 /// A bucket that has items, of which it picks one.
 pub trait Picker {

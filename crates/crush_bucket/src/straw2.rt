@@ -9,7 +9,7 @@ ghost use Rattle.crush_bucket.specs.Private.Soonest.{IsBest};
 use crate::list::{word_up_to, words};
 use crate::soonest::{Soonest, nothing, offer};
 use crush_hash::{hash3_four, hash3_items};
-use crush_types::{ItemId, Weight};
+use crush_map::{ItemId, Weight};
 
 /// Picks the item of `items` that arrives first for the input `x` and the attempt `r`, as a straw2
 /// bucket of them does. Allocates nothing.

@@ -3,7 +3,7 @@
 ghost use Rattle.std.specs.Prelude.{◌≡◌, ◌<◌, ◌^◌, IsTrue, length};
 ghost use Rattle.crush_bucket.specs.Bucket.{CanBeAsked, total_weight, weight_within};
 
-use crush_types::{ItemId, Weight, total_weight};
+use crush_map::{ItemId, Weight, total_weight};
 
 /// Returns whether a bucket of `items` can be built: they are 1 to 65,535, and the sum of their
 /// weights is below 2^32.

@@ -9,7 +9,7 @@ ghost use Rattle.crush_bucket.specs.Private.Kept.{AreNodes, node_weights};
 use crate::any::AnyBucket;
 use crate::descent::{child, down, last_down, places, two_down};
 use crate::sums::weight_within;
-use crush_types::{ItemId, Weight};
+use crush_map::{ItemId, Weight};
 use std::alloc::{AllocError, Global};
 use std::marker::Model;
 

@@ -9,7 +9,7 @@ ghost use Rattle.crush_hash.specs.Permutation.{no_id};
 use crate::any::AnyBucket;
 use crate::uniform::asked_place;
 use crush_hash::eight_members;
-use crush_types::{ItemId, Kind};
+use crush_map::{ItemId, Kind};
 
 /// The places up to which eight buckets are asked at once. A later one takes more hashes, and is
 /// found sooner in a permutation that is stored.

@@ -9,7 +9,7 @@ ghost use Rattle.crush_hash.specs.Permutation.{no_id};
 use crate::any::AnyBucket;
 use crate::tree::TreeRef;
 use crush_hash::hash4_each;
-use crush_types::ItemId;
+use crush_map::ItemId;
 
 /// Picks the items of eight buckets for eight inputs and one attempt, in their order. `None`: one
 /// of them isn't a tree, or has no items. Allocates nothing. It stands whole where it is called, so

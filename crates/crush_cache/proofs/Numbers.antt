@@ -1,14 +1,18 @@
 -- Numbers stay with their contents.
-use Rattle.std.proofs.Common.{◌≡◌, ◌∙◌, ℕ, ◌+◌, ◌-◌, ◌<◌, List, [], ◌∷◌, ◌++◌, length, slice_get, Some, None, position, Contains, arith, length-append, ap, sym, subst}
+use Rattle.std.proofs.Common.{◌≡◌, ◌∙◌, ℕ, ◌+◌, ◌-◌, ◌<◌, List, [], ◌∷◌, ◌++◌, length, slice_get, Some, None, position, Contains, arith, length-append, ap, refl, sym, subst, ◌≤◌, Bool, not, nat_le}
+use Rattle.std.specs.List.{filter}
+use Rattle.std.proofs.lemmas.List.Elements.{filter-append}
+use Rattle.std.proofs.lemmas.List.Filters.{length-filter_both}
 use Rattle.std.proofs.lemmas.Option.{get_or_from_slice_get, slice_get-get_or, slice_get_within}
 use Rattle.std.proofs.lemmas.List.Quantifiers.{position-Some}
 use Rattle.std.proofs.Math.ListN.{get_or-append}
 use Rattle.lru.proofs.Pairs.{slice_get-cut}
+use Rattle.crush_pool.specs.declared.content.TheConstants.{LONG_TEXT}
 use Rattle.crush_pool.specs.declared.placing.Placement.{Placement}
 use Rattle.crush_pool.specs.Contents.{Content, content_eq}
 use Rattle.crush_pool.specs.Laws.{content_decides}
 use Rattle.crush_cache.specs.Caches.{IsNumberOf, Numbered, WasNumberOf}
-use Rattle.crush_cache.specs.Private.Entries.{AreNumbered, AreRight, IsPlacementIn, IsPlacementOf}
+use Rattle.crush_cache.specs.Private.Entries.{AreNumbered, AreRight, IsPlacementIn, IsPlacementOf, long_in}
 use Rattle.crush_cache.specs.declared.entries.Key.{Key}
 
 -- an element's place is unchanged where the list gets longer
@@ -67,12 +71,20 @@ last first cs p =
 pub number_of-last : (first : ℕ) (cs : List Content) (p : Content) (len : ℕ) → len ≡ length cs → IsNumberOf (more first cs p) (first + len) p
 number_of-last first cs p len l = subst (λ n. IsNumberOf (more first cs p) (first + n) p) (sym l) (last first cs p)
 
-pub are_numbered-more : (first : ℕ) (cs : List Content) (p : Content) (len : ℕ) → len ≡ length cs → AreNumbered (numbered first cs) → length cs < 256 → (first + len ≡ 18446744073709551615 → ⊥) → AreNumbered (more first cs p)
-are_numbered-more first cs p len l are few left =
+-- a content more is at most one with a long text more
+long_in-more : (cs : List Content) (p : Content) → long_in cs < 64 → long_in (cs ++ p ∷ []) ≤ 64
+long_in-more cs p few =
+    let is_long : Content → Bool = λ c. nat_le LONG_TEXT (length c.text) in
+    let split : long_in (cs ++ p ∷ []) ≡ long_in cs + long_in (p ∷ []) = ap length (filter-append is_long cs (p ∷ [])) ∙ length-append (filter is_long cs) (filter is_long (p ∷ [])) in
+    let other : length (filter is_long (p ∷ [])) + length (filter (λ c. not (is_long c)) (p ∷ [])) ≡ 1 = length-filter_both is_long (λ c. not (is_long c)) (λ c. refl) (p ∷ []) in
+    omega (arith, split, other, few)
+
+pub are_numbered-more : (first : ℕ) (cs : List Content) (p : Content) (len : ℕ) → len ≡ length cs → AreNumbered (numbered first cs) → length cs < 256 → long_in cs < 64 → (first + len ≡ 18446744073709551615 → ⊥) → AreNumbered (more first cs p)
+are_numbered-more first cs p len l are few long left =
     let longer : length (cs ++ p ∷ []) ≡ length cs + 1 = length-append cs (p ∷ []) in
     let fit : first + length cs < 18446744073709551616 = are.fit in
     let small : first + length (cs ++ p ∷ []) < 18446744073709551616 = omega (arith, longer, fit, left, l) in
-    record { few = omega (arith, longer, few); fit = small }
+    record { few = omega (arith, longer, few); long = long_in-more cs p long; fit = small }
 
 pub placement_in-more : (first : ℕ) (cs : List Content) (q : Content) (n group : ℕ) (p : Placement) → IsPlacementIn (numbered first cs) n group p → IsPlacementIn (more first cs q) n group p
 placement_in-more first cs q n group p h = (h.0, number_of-more first cs q n h.0 h.1, h.2)

@@ -1,16 +1,16 @@
 //! The cache.
 
 ghost use Rattle.std.specs.Prelude.{◌≡◌, ◌+◌, ◌<◌, [], ℕ, Some, IfOk, IfErr, IfSome, is_ok, length, nat_le, nat_lt, position};
-ghost use Rattle.crush_map.specs.Map.{IsMap};
+ghost use Rattle.crush_pool.specs.crush_map.specs.Map.{IsMap};
 ghost use Rattle.crush_pool.specs.Placements.{placement};
 ghost use Rattle.crush_cache.specs.Caches.{IsNumberOf, KeepsNumbers, WasNumberOf};
 ghost use Rattle.crush_pool.specs.Contents.{Content, content_eq, content_of};
-ghost use Rattle.crush_cache.specs.Private.Entries.{IsPlacementIn, IsPlacementOf};
+ghost use Rattle.crush_cache.specs.Private.Entries.{IsPlacementIn, IsPlacementOf, long_in};
 ghost use Rattle.crush_pool.specs.declared.content.TheConstants.{LONG_TEXT};
-ghost use Rattle.crush_cache.specs.declared.limits.TheConstants.{CONTENT_LIMIT};
+ghost use Rattle.crush_cache.specs.declared.limits.TheConstants.{CONTENT_LIMIT, LONG_LIMIT};
 
 use crate::entries::{Entries, Key, keep, recall};
-use crate::limits::CONTENT_LIMIT;
+use crate::limits::{CONTENT_LIMIT, LONG_LIMIT};
 use crate::seen::Seen;
 use crush_bucket::Scratch;
 use crush_choose::Out;
@@ -26,9 +26,9 @@ use std::rc::Rc;
 /// longer than placing it anew by a map with a short text.
 const NEAR_CAPACITY: usize = 8_192;
 
-/// Placements of groups, for at most `CONTENT_LIMIT` contents. Each content has a number, which is
-/// never given again. Contracts see the contents and their numbers, and never which placements are
-/// kept.
+/// Placements of groups, for at most `CONTENT_LIMIT` contents, of which at most `LONG_LIMIT` have a
+/// long text. Each content has a number, which is never given again. Contracts see the contents and
+/// their numbers, and never which placements are kept.
 #[derive(Drop)]
 pub struct PlacementCache {
     alloc: Global,
@@ -56,6 +56,13 @@ fn place_of(contents: &[Content], content: &Content) -> Option<usize>
     ensures { result ≡ position (λ c. content_eq c content.now) contents.now }
 {
     contents.iter().position(|other| *other == *content)
+}
+
+/// Counts the contents with a long text.
+fn long_in(contents: &[Content]) -> usize
+    ensures { result ≡ long_in contents.now }
+{
+    contents.iter().filter(|content| content.is_long()).count()
 }
 
 /// Places a group anew, by its placer alone.
@@ -93,12 +100,14 @@ impl PlacementCache {
         })
     }
 
-    /// Empties the cache where it is full of contents. Their numbers stay given.
+    /// Empties the cache where it is full of contents, or of those with a long text. Their numbers
+    /// stay given.
     fn make_room(&mut self)
         ensures room { length self.new.contents < CONTENT_LIMIT }
+        ensures long { long_in self.new.contents < LONG_LIMIT }
         ensures kept { KeepsNumbers self.old self.new }
     {
-        if self.contents.len() >= CONTENT_LIMIT {
+        if self.contents.len() >= CONTENT_LIMIT || long_in(self.contents.as_slice()) >= LONG_LIMIT {
             self.first += self.contents.len() as u64;
             self.contents.clear();
             self.entries.clear();
@@ -107,7 +116,8 @@ impl PlacementCache {
 
     /// Gives a content the next number. `None`: no number is left, or an allocation failed.
     fn add(&mut self, content: Content) -> Option<u64>
-        requires { length self.old.contents < CONTENT_LIMIT }
+        requires room { length self.old.contents < CONTENT_LIMIT }
+        requires long { long_in self.old.contents < LONG_LIMIT }
         ensures number { IfSome result (λ n. IsNumberOf self.new n content) }
         ensures kept { KeepsNumbers self.old self.new }
     {

@@ -14,7 +14,7 @@ use Rattle.crush_map.specs.Sound.{IsBucketAt, has_bucket, has_device, has_item, 
 use Rattle.crush_map.specs.declared.draft.Bucket.{Bucket}
 use Rattle.crush_map.specs.declared.draft.Device.{Device}
 use Rattle.crush_map.specs.declared.draft.Step.{Step}
-use Rattle.crush_types.specs.declared.ItemId.{ItemId}
+use Rattle.crush_map.specs.crush_types.specs.declared.ItemId.{ItemId}
 use Rattle.crush_bucket.specs.Laws.{PicksBelow}
 use Rattle.crush_bucket.specs.declared.typed.TypedBucket.{TypedBucket}
 use Rattle.crush_bucket.specs.Tables.{TablesView, IsDevice, bucket_numbered, no_bucket, pick_at, size_at, tables_of, typed_bucket}

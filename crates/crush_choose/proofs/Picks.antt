@@ -2,7 +2,7 @@
 use Rattle.std.proofs.Common.{◌≡◌, ℕ, ◌&&◌, ◌||◌, cond, nat_lt, nat_le, Bool, true, false, List, [], ◌∷◌, refl, ap, sym, ◌∙◌, arith}
 use Rattle.std.specs.List.{list_any, filter}
 use Rattle.std.proofs.lemmas.Bool.Decides.{nat_tests}
-use Rattle.crush_types.specs.declared.Kind.{Kind}
+use Rattle.crush_map.specs.crush_types.specs.declared.Kind.{Kind}
 use Rattle.crush_bucket.specs.Bucket.{BucketView, WeightedItem}
 use Rattle.crush_bucket.specs.Pickable.{weighs, picks_by_weight, without_weights, pickable_as, pickable}
 

@@ -1,7 +1,7 @@
 -- The loop of a walk, one bucket at a time.
 use Rattle.std.proofs.Common.{◌≡◌, ℕ, zero, suc, ◌+◌, ◌*◌, ◌<◌, ◌≤◌, Bool, true, false, Some, None, refl, ◌∙◌, arith, if◌then◌else◌, ◌==◌, eq-eqb}
 use Rattle.std.proofs.lemmas.Bool.Decides.{nat_tests}
-use Rattle.crush_types.specs.declared.ItemId.{ItemId}
+use Rattle.crush_map.specs.crush_types.specs.declared.ItemId.{ItemId}
 use Rattle.crush_bucket.specs.Tables.{TablesView, pick_at, type_at, size_at, bucket_numbered, IsBelow}
 use Rattle.crush_choose.specs.declared.walk.Reached.TheVariants.{Wrong, Found}
 use Rattle.crush_choose.specs.Reach.{at_item, reach_below, reach}

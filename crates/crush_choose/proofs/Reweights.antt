@@ -1,7 +1,7 @@
 -- The reweight of an id among those of all ids.
 use Rattle.std.proofs.Common.{◌≡◌, ℕ, List, ap, ◌∙◌}
-use Rattle.crush_types.specs.DeviceValues.{Values, values_of}
-use Rattle.crush_types.proofs.DeviceValues.{value-values_of}
+use Rattle.crush_map.specs.crush_types.specs.DeviceValues.{Values, values_of}
+use Rattle.crush_map.specs.crush_types.proofs.DeviceValues.{value-values_of}
 use Rattle.crush_choose.specs.Weights.{reweight_of, weights_of, weight_at}
 use Rattle.crush_choose.specs.declared.weights.TheConstants.{FULL}
 

@@ -1,6 +1,6 @@
 -- A walk is one pick followed by the walk from the picked item.
 use Rattle.std.proofs.Common.{◌≡◌, ℕ, zero, suc, ◌<◌, length, Bool, true, false, Option, Some, None, MatchOption, refl, ap, arith, if◌then◌else◌, ◌==◌}
-use Rattle.crush_types.specs.declared.ItemId.{ItemId}
+use Rattle.crush_map.specs.crush_types.specs.declared.ItemId.{ItemId}
 use Rattle.crush_bucket.specs.Tables.{TablesView, pick_at, type_at, size_at, bucket_numbered, IsDevice}
 use Rattle.crush_choose.specs.declared.walk.Reached.{Reached}
 use Rattle.crush_choose.specs.declared.walk.Reached.TheVariants.{Empty, Found}

@@ -3,7 +3,7 @@
 -- An answer is a list of marks, one for each rep or position: an item with its try and leaf, or
 -- given up, or none.
 use Rattle.std.specs.Prelude.{ℕ, List, [], ◌∷◌, map, Option, Some, None}
-use Rattle.crush_types.specs.declared.ItemId.{ItemId}
+use Rattle.crush_map.specs.crush_types.specs.declared.ItemId.{ItemId}
 use Rattle.crush_choose.specs.declared.mark.Spot.{Spot}
 use Rattle.crush_choose.specs.declared.mark.Mark.{Mark}
 use Rattle.crush_choose.specs.declared.mark.Mark.TheVariants.{Skipped, Placed}

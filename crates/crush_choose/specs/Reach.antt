@@ -4,8 +4,8 @@
 -- There it is a loop inside the retries; here it is a function of the bucket and of the attempt at
 -- each bucket.
 use Rattle.std.specs.Prelude.{ℕ, zero, suc, ◌+◌, ◌*◌, ◌%◌, ◌&&◌, ◌==◌, Option, Some, None, if◌then◌else◌}
-use Rattle.crush_types.specs.declared.ItemId.{ItemId}
-use Rattle.crush_types.specs.Kinds.{is_uniform}
+use Rattle.crush_map.specs.crush_types.specs.declared.ItemId.{ItemId}
+use Rattle.crush_map.specs.crush_types.specs.Kinds.{is_uniform}
 use Rattle.crush_bucket.specs.Tables.{TablesView, pick_at, type_at, kind_at, size_at, bucket_numbered}
 use Rattle.crush_choose.specs.declared.walk.Reached.{Reached}
 use Rattle.crush_choose.specs.declared.walk.Reached.TheVariants.{Empty, Wrong, Found}

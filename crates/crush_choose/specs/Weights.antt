@@ -2,8 +2,8 @@
 -- opposite).
 use Rattle.std.specs.Prelude.{ℕ, ℤ, pos, negsuc, ◌%◌, ◌&&◌, ◌||◌, nat_lt, nat_le, Bool, false, List, slice_index_or}
 use Rattle.crush_hash.specs.Hash.{hash2}
-use Rattle.crush_types.specs.DeviceValues.{value_of, values_of}
-use Rattle.crush_types.specs.declared.ItemId.{ItemId}
+use Rattle.crush_map.specs.crush_types.specs.DeviceValues.{value_of, values_of}
+use Rattle.crush_map.specs.crush_types.specs.declared.ItemId.{ItemId}
 use Rattle.crush_choose.specs.declared.weights.TheConstants.{FULL}
 
 -- the reweight of an id: the first for it in pairs of id and reweight, or 1.0 if there is none; an

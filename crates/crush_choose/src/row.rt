@@ -20,7 +20,7 @@ pub struct Row {
 
 impl Model for Row {
     ghost use Rattle.std.specs.Prelude.{◌≡◌, ◌≤◌, List, Option, length, take};
-    ghost use Rattle.crush_types.specs.declared.ItemId.{ItemId};
+    ghost use Rattle.crush_map.specs.crush_types.specs.declared.ItemId.{ItemId};
     ghost use Rattle.crush_choose.specs.declared.limits.TheConstants.{SIZE_LIMIT};
 
     ghost Value = { List (Option ItemId) };

@@ -1,7 +1,7 @@
 -- What is said of a script over states is said of the same states.
 use Rattle.std.proofs.lemmas.Bool.{false≢true}
 use Rattle.std.proofs.Common.{◌≡◌, ℕ, List, Bool, true, false, Option, refl, sym}
-use Rattle.tenant_core.specs.States.{Headline, MeetsDefinition, Outcomes, States, Same}
+use Rattle.tenant_files.specs.tenant_core.specs.States.{Headline, MeetsDefinition, Outcomes, States, Same}
 use Rattle.crush_app.proofs.Ending.{cut_map, first_map, plays_map}
 use Rattle.crush_app.specs.Play.{Plays, PlaysScript, PlaysTo, PlaysUntilLatched, PlaysUpTo, WritesHeadline, WritesSession}
 use Rattle.crush_app.specs.declared.play.ScriptEnd.{ScriptEnd}

@@ -3,15 +3,15 @@ use Rattle.std.specs.Prelude.{ℕ, ◌≡◌, ◌⊎◌, List, true, Option, Res
 use Rattle.std.specs.declared.alloc.AllocError.{AllocError}
 use Rattle.sqlite_disk.specs.declared.Disk as disk
 use Rattle.sqlite_disk.specs.declared.Files.{Files}
-use Rattle.sqlite_wal.specs.Reads.{AreClean}
-use Rattle.sqlite_wal.specs.Recovery.{Image}
-use Rattle.sqlite_store.specs.declared.store.FileStore.{FileStore}
+use Rattle.tenant_files.specs.sqlite_wal.specs.Reads.{AreClean}
+use Rattle.tenant_files.specs.sqlite_wal.specs.Recovery.{Image}
+use Rattle.tenant_files.specs.sqlite_store.specs.declared.store.FileStore.{FileStore}
 use Rattle.sqlite.specs.Files.{file_state, over_files}
 use Rattle.sqlite.specs.Held.{Held}
 use Rattle.tenant_files.specs.Stored.{MayStandFor}
 use Rattle.tenant_files.specs.Used.{AreAsBefore, UsesFile, UsesFiles}
 use Rattle.tenant_files.specs.declared.fault.FileFault.{FileFault}
-use Rattle.tenant_tables.specs.Rows.{StandsFor, StatesIn}
+use Rattle.tenant_store.specs.tenant_tables.specs.Rows.{StandsFor, StatesIn}
 use Rattle.crush_app.specs.End.{EndsScript}
 use Rattle.crush_app.specs.Play.{PlaysScript}
 use Rattle.crush_app.specs.declared.play.ScriptEnd.{ScriptEnd}

@@ -1,7 +1,7 @@
 //! Scripts that are played over a database file.
 
 ghost use Rattle.std.specs.Prelude.{◌≡◌, IfOk, IfErr, IfSome, OnErr};
-ghost use Rattle.sqlite_wal.specs.Files.{image_at};
+ghost use Rattle.tenant_files.specs.sqlite_wal.specs.Files.{image_at};
 ghost use Rattle.tenant_files.specs.Refused.{IsRefused};
 ghost use Rattle.crush_files.specs.Ended.{EndsOnFile};
 

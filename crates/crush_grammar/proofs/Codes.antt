@@ -18,7 +18,7 @@ use Rattle.crush_grammar.specs.declared.declaration.DeclaredBucket.{DeclaredBuck
 use Rattle.crush_grammar.specs.declared.declaration.DeclaredStep.{DeclaredStep}
 use Rattle.crush_grammar.specs.declared.declaration.DeclaredRule.{DeclaredRule}
 use Rattle.crush_grammar.specs.declared.declaration.Declaration.{Declaration}
-use Rattle.crush_types.specs.declared.Kind.TheVariants as kinds
+use Rattle.crush_map.specs.crush_types.specs.declared.Kind.TheVariants as kinds
 use Rattle.crush_grammar.specs.declared.declaration.DeclaredStep.TheVariants as steps
 use Rattle.crush_grammar.specs.declared.declaration.Declaration.TheVariants as declarations
 use Rattle.crush_grammar.proofs.Endings.{Ends, is_open, straw, is_taken, wants_alg, wants_weight, code_at, run, ends_on, ends_off}

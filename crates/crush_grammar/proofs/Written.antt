@@ -4,7 +4,7 @@ use Rattle.std.specs.List.{flat_map}
 use Rattle.std.specs.Prelude.{option_map}
 use Rattle.std.proofs.lemmas.List.{append-nil}
 use Rattle.std.proofs.lemmas.Slice.Eq.{bytes_eq-Decides}
-use Rattle.crush_types.specs.declared.Kind.{Kind}
+use Rattle.crush_map.specs.crush_types.specs.declared.Kind.{Kind}
 use Rattle.crush_map.specs.WeightText.{weight_of}
 use Rattle.crush_grammar.specs.Words.{Word}
 use Rattle.crush_grammar.specs.Numbers.{number_of, integer_of}

@@ -1,6 +1,6 @@
 -- Where words leave the grammar, and what is declared before.
 use Rattle.std.specs.Prelude.{◌≡◌, ℕ, suc, ◌<◌, ◌||◌, ◌⊎◌, true, false, codes, bytes_eq, Bool, List, [], ◌∷◌, ◌++◌, length, take, slice_get, Some, IsSomeAnd, is_some}
-use Rattle.crush_types.specs.declared.Weight.{Weight}
+use Rattle.crush_map.specs.crush_types.specs.declared.Weight.{Weight}
 use Rattle.crush_grammar.specs.Words.{Word}
 use Rattle.crush_grammar.specs.Sayings.{name_of}
 use Rattle.crush_grammar.specs.Syntax.{Declares}

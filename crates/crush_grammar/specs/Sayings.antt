@@ -1,9 +1,9 @@
 -- What single words of a map text say.
 use Rattle.std.specs.Prelude.{ℕ, nat_lt, ◌&&◌, ◌||◌, Bool, true, false, List, length, Option, Some, None, if◌then◌else◌, codes, bytes_eq}
 use Rattle.std.specs.List.{list_all}
-use Rattle.crush_types.specs.declared.Kind.{Kind}
-use Rattle.crush_types.specs.declared.Kind.TheVariants.{Straw2}
-use Rattle.crush_types.specs.Kinds.{kind_name, kind_named}
+use Rattle.crush_map.specs.crush_types.specs.declared.Kind.{Kind}
+use Rattle.crush_map.specs.crush_types.specs.declared.Kind.TheVariants.{Straw2}
+use Rattle.crush_map.specs.crush_types.specs.Kinds.{kind_name, kind_named}
 use Rattle.crush_map.specs.Faults.{is_name_byte, is_reserved}
 use Rattle.crush_grammar.specs.Words.{Word}
 use Rattle.crush_grammar.specs.declared.declaration.TunableName.{TunableName}

@@ -4,7 +4,7 @@
 -- rule of the grammar; its fields stand in the order of their words. Source: Ceph's CRUSH map
 -- manual and its compiler of map texts.
 use Rattle.std.specs.Prelude.{◌≡◌, ℕ, true, false, List, [], ◌∷◌, ◌++◌, map, Option, Some, None, codes, flat_map, option_map}
-use Rattle.crush_types.specs.declared.Kind.{Kind}
+use Rattle.crush_map.specs.crush_types.specs.declared.Kind.{Kind}
 use Rattle.crush_map.specs.WeightText.{weight_of}
 use Rattle.crush_grammar.specs.Words.{Word}
 use Rattle.crush_grammar.specs.Numbers.{number_of, integer_of}

@@ -1,7 +1,7 @@
 //! Reading buckets.
 
 ghost use Rattle.std.specs.Prelude.{◌≡◌, ◌≤◌, ℕ, List, [], Option, Some, None, true, false, length, IfOk};
-ghost use Rattle.crush_types.specs.declared.Weight.{Weight};
+ghost use Rattle.crush_map.specs.crush_types.specs.declared.Weight.{Weight};
 ghost use Rattle.crush_grammar.specs.Automaton.{State, give, named, with_item};
 ghost use Rattle.crush_grammar.specs.Private.Leads.{ahead, Leads};
 ghost use Rattle.crush_grammar.specs.declared.declaration.Declaration.TheVariants as declarations;

@@ -6,8 +6,8 @@ use Rattle.tenant_core.specs.StoreReply.{IsUnavailable}
 use Rattle.tenant_core.proofs.Running.{run_on, run_none}
 use Rattle.tenant_service.proofs.Served.{session_more}
 use Rattle.tenant_service.specs.Served.{ServesSession}
-use Rattle.tenant_messages.specs.declared.call.Call.{Call}
-use Rattle.tenant_messages.specs.declared.reply.Reply.{Reply}
+use Rattle.tenant_core.specs.tenant_messages.specs.declared.call.Call.{Call}
+use Rattle.tenant_core.specs.tenant_messages.specs.declared.reply.Reply.{Reply}
 use Rattle.tenant_service.proofs.OneSession.{Rests, no_session, one_session}
 use Rattle.crush_http.specs.Private.Served.{Replies, ServesAtMostOne}
 

@@ -2,7 +2,7 @@
 -- that the messages are a function of the input.
 use Rattle.std.specs.Prelude.{◌≡◌, ℕ, ◌-◌, ◌<◌, ◌⊎◌, ◌==◌, ◌||◌, Bool, true, false, List, [], ◌∷◌, ◌++◌, length, map, ⊤}
 use Rattle.httparse.specs.Grammar.{RequestHead}
-use Rattle.tenant_messages.specs.declared.call.Call.{Call}
+use Rattle.tenant_core.specs.tenant_messages.specs.declared.call.Call.{Call}
 use Rattle.crush_http.specs.Head.{HeadAt, HasNoHead, IsHalfHead}
 use Rattle.crush_http.specs.Headers.{bytes, rejected, size_of, headers_of, closes}
 use Rattle.crush_http.specs.declared.rejection.Rejection.{Rejection}

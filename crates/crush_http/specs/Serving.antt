@@ -1,8 +1,8 @@
 -- What is read, served and written on a connection.
 use Rattle.std.specs.Prelude.{ℕ, ◌≡◌, ◌⊎◌, List, ◌++◌, length, Option, IfSome, ⊤}
 use Rattle.std.specs.Io.KnownBytes.{Appends}
-use Rattle.tenant_messages.specs.declared.call.Call.{Call}
-use Rattle.tenant_messages.specs.declared.reply.Reply.{Reply}
+use Rattle.tenant_core.specs.tenant_messages.specs.declared.call.Call.{Call}
+use Rattle.tenant_core.specs.tenant_messages.specs.declared.reply.Reply.{Reply}
 use Rattle.tenant_service.specs.Writing.{AppendsPart}
 use Rattle.crush_http.specs.Messages.{Message, Stop, input_ended, refused, last_served, read_failed, write_failed, HasMessages, calls_of}
 use Rattle.crush_http.specs.Wire.{output, rejection_wire}

@@ -2,7 +2,7 @@
 use Rattle.std.specs.Prelude.{ℕ, ◌&&◌, Bool, true, false, List, [], ◌∷◌, ◌++◌, length, nat_le, nat_lt, if◌then◌else◌, codes, decimal, unwrap_or}
 use Rattle.std.specs.List.{flat_map}
 use Rattle.http.specs.StatusCode.{reason_phrase}
-use Rattle.tenant_messages.specs.declared.reply.Reply.{Reply}
+use Rattle.tenant_core.specs.tenant_messages.specs.declared.reply.Reply.{Reply}
 use Rattle.tenant_service.specs.Writing.{shown_body}
 use Rattle.crush_http.specs.Messages.{Message}
 use Rattle.crush_http.specs.declared.rejection.Rejection.{Rejection}

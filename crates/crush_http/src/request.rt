@@ -3,7 +3,7 @@
 ghost use Rattle.std.specs.Prelude.{◌≡◌, ◌≤◌, length, IfOk, IfErr};
 ghost use Rattle.httparse.specs.Grammar.{RequestHead};
 ghost use Rattle.httparse.specs.Spans.{IsRequestOf, IsRequestWithin};
-ghost use Rattle.tenant_messages.specs.CallParts as spec;
+ghost use Rattle.tenant_core.specs.tenant_messages.specs.CallParts as spec;
 ghost use Rattle.crush_http.specs.Messages.{HasBadSize};
 ghost use Rattle.crush_http.specs.declared.limits.TheConstants.{HEAD_LIMIT, HEADER_LIMIT};
 ghost use Rattle.crush_http.specs.Private.Reading.{IsRequest, call_in, used};
@@ -11,7 +11,7 @@ ghost use Rattle.crush_http.specs.Private.Reading.{IsRequest, call_in, used};
 use crate::headers::{asks_close, size_of};
 use crate::rejection::Rejection;
 use httparse::spans::{HeaderSpan, RequestSpans, Span};
-use tenant_messages::CallParts;
+use tenant_core::CallParts;
 
 /// The places of the parts of a message in the buffer, and the length of its body.
 #[derive(Clone, Copy)]

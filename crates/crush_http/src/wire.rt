@@ -9,7 +9,7 @@ use crate::held::Held;
 use crate::rejection::Rejection;
 use http::StatusCode;
 use std::io::Write;
-use tenant_messages::Reply;
+use tenant_core::Reply;
 use tenant_service::shown_body;
 
 /// Puts the pieces, one after the other, after what is held, and returns whether all bytes are held

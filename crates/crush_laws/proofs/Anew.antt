@@ -5,9 +5,9 @@ use Rattle.tenant_core.specs.Request.{Request, request_of}
 use Rattle.tenant_core.specs.Step.{decision_on, decision_or_refusal, step}
 use Rattle.tenant_core.specs.declared.request.Action.{Action}
 use Rattle.tenant_core.specs.declared.request.Action.TheVariants as action
-use Rattle.tenant_messages.specs.declared.call.Call.{Call}
-use Rattle.tenant_messages.specs.declared.reply.Problem.{Problem}
-use Rattle.tenant_state.specs.State.{TenantState, fresh}
+use Rattle.tenant_core.specs.tenant_messages.specs.declared.call.Call.{Call}
+use Rattle.tenant_core.specs.tenant_messages.specs.declared.reply.Problem.{Problem}
+use Rattle.tenant_core.specs.tenant_state.specs.State.{TenantState, fresh}
 
 -- a request made the tenant, and its state is `fresh`
 abbrev IsMadeBy : Action → TenantState → Type 0

@@ -6,9 +6,9 @@ use Rattle.std.specs.List.{All}
 use Rattle.tenant_core.specs.Alone.{alone, answered, calls_answered, is_answered, replies_answered}
 use Rattle.tenant_core.specs.Step.{is_of, step}
 use Rattle.crush_laws.proofs.Lists.{past, in_front, front_or_past, none_in}
-use Rattle.tenant_messages.specs.declared.call.Call.{Call}
-use Rattle.tenant_messages.specs.declared.reply.Reply.{Reply}
-use Rattle.tenant_state.specs.State.{TenantState}
+use Rattle.tenant_core.specs.tenant_messages.specs.declared.call.Call.{Call}
+use Rattle.tenant_core.specs.tenant_messages.specs.declared.reply.Reply.{Reply}
+use Rattle.tenant_core.specs.tenant_state.specs.State.{TenantState}
 
 -- ---- the status 503
 

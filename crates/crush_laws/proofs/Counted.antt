@@ -4,11 +4,11 @@ use Rattle.std.specs.List.{sum_by}
 use Rattle.std.specs.Map.{lookup, values_of}
 use Rattle.std.proofs.lemmas.List.Sums.{sum_by-append, sum_by-cons, sum_by-le-sum_by}
 use Rattle.crush_map.specs.Map.{Map}
-use Rattle.crush_writing.specs.Canonical.{canonical}
+use Rattle.tenant_core.specs.crush_text.specs.crush_writing.specs.Canonical.{canonical}
 use Rattle.tenant_cache.specs.Kept.{Kept, Ready, bytes_kept, kept_at}
 use Rattle.crush_laws.specs.Sizes.{item_count, pair_count, step_count, text_bytes}
-use Rattle.tenant_state.specs.Size.{items_in, pool_size, size, states_size, steps_in, version_size}
-use Rattle.tenant_state.specs.State.{Inventory, TenantPool}
+use Rattle.tenant_core.specs.tenant_state.specs.Size.{items_in, pool_size, size, states_size, steps_in, version_size}
+use Rattle.tenant_core.specs.tenant_state.specs.State.{Inventory, TenantPool}
 
 of_versions : (ms : List Map) → sum_by (λ (m : Map). length (canonical m)) ms + 8 * sum_by (λ (m : Map). items_in m.buckets) ms + 16 * sum_by (λ (m : Map). steps_in m.rules) ms ≤ sum_by version_size ms
 of_versions [] = omega arith

@@ -5,14 +5,14 @@ use Rattle.std.proofs.lemmas.Option.{slice_get_within}
 use Rattle.std.specs.List.{All}
 use Rattle.tenant_core.specs.Alone.{alone, answered}
 use Rattle.tenant_core.specs.Step.{is_of, step}
-use Rattle.tenant_service.proofs.Explaining.{alone-state}
-use Rattle.tenant_service.specs.History.{IsLinkedFor, MayLeave, Session, acknowledged, at_doubt, in_doubt}
+use Rattle.crush_server.specs.tenant_service.proofs.Explaining.{alone-state}
+use Rattle.crush_server.specs.tenant_service.specs.History.{IsLinkedFor, MayLeave, Session, acknowledged, at_doubt, in_doubt}
 use Rattle.crush_laws.proofs.Answered.{none_answered}
 use Rattle.crush_laws.proofs.Lists.{all_at, front_or_past, none_in}
 use Rattle.crush_laws.specs.Sessions.{HasNoDoubtOf, IsInDoubt, after_acknowledged}
-use Rattle.tenant_messages.specs.declared.call.Call.{Call}
-use Rattle.tenant_messages.specs.declared.reply.Reply.{Reply}
-use Rattle.tenant_state.specs.State.{TenantState}
+use Rattle.tenant_core.specs.tenant_messages.specs.declared.call.Call.{Call}
+use Rattle.tenant_core.specs.tenant_messages.specs.declared.reply.Reply.{Reply}
+use Rattle.tenant_core.specs.tenant_state.specs.State.{TenantState}
 
 -- ---- the call at a place
 

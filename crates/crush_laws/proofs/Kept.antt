@@ -5,14 +5,14 @@ use Rattle.std.proofs.lemmas.List.Elements.{Contains-append_left, Contains-appen
 use Rattle.crush_map.specs.Sound.{IsEachOnce}
 use Rattle.tenant_core.specs.Alone.{answered}
 use Rattle.tenant_core.specs.Step.{is_of}
-use Rattle.tenant_service.proofs.Ordering.{keeps_order}
-use Rattle.tenant_service.specs.History.{AreInOrder, IsKeptOf, IsSoundFor, Kept, Session, calls_of, in_doubt, kept_acknowledged, kept_in_doubt}
+use Rattle.crush_server.specs.tenant_service.proofs.Ordering.{keeps_order}
+use Rattle.crush_server.specs.tenant_service.specs.History.{AreInOrder, IsKeptOf, IsSoundFor, Kept, Session, calls_of, in_doubt, kept_acknowledged, kept_in_doubt}
 use Rattle.crush_laws.proofs.Answered.{among_answered, is_no_503, stands}
 use Rattle.crush_laws.proofs.Doubtful.{doubted, no_doubt, own_doubt}
 use Rattle.crush_laws.proofs.Lists.{from_map, in_map}
 use Rattle.crush_laws.specs.Sessions.{HasNoDoubtOf, IsAcknowledged, IsInDoubt, IsOfSession}
-use Rattle.tenant_messages.specs.declared.call.Call.{Call}
-use Rattle.tenant_messages.specs.declared.reply.Reply.{Reply}
+use Rattle.tenant_core.specs.tenant_messages.specs.declared.call.Call.{Call}
+use Rattle.tenant_core.specs.tenant_messages.specs.declared.reply.Reply.{Reply}
 
 abbrev with_reply : Call × Reply → Kept
 with_reply p = record { call = p.0; reply = Some p.1 }

@@ -1,7 +1,7 @@
 -- Bytes that are written in part, and bodies as they are shown.
 use Rattle.std.proofs.Common.{◌≡◌, ◌≢◌, ◌<◌, ◌++◌, ◌+◌, ℕ, List, [], ◌∷◌, length, Some, refl, sym, ap, ◌∙◌, arith}
 use Rattle.std.proofs.lemmas.List.{length-append}
-use Rattle.tenant_service.specs.Writing.{AppendsPart, shown_body}
+use Rattle.crush_server.specs.tenant_service.specs.Writing.{AppendsPart, shown_body}
 
 pub is_less : (old new bytes : List ℕ) → AppendsPart (Some old) (Some new) bytes → length new < length old + length bytes
 is_less old new bytes part =

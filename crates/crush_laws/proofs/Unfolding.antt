@@ -6,9 +6,9 @@ use Rattle.std.proofs.lemmas.List.Elements.{Contains-get_or}
 use Rattle.std.proofs.lemmas.List.Folds.{Any-from_list_any}
 use Rattle.std.proofs.lemmas.Bool.Decides.{Decides-eqb}
 use Rattle.std.proofs.lemmas.Option.{slice_get-get_or}
-use Rattle.crush_types.specs.declared.ItemId.{ItemId}
-use Rattle.crush_types.specs.declared.Kind.{Kind}
-use Rattle.crush_types.specs.declared.Weight.{Weight}
+use Rattle.crush_map.specs.crush_types.specs.declared.ItemId.{ItemId}
+use Rattle.crush_map.specs.crush_types.specs.declared.Kind.{Kind}
+use Rattle.crush_map.specs.crush_types.specs.declared.Weight.{Weight}
 use Rattle.crush_map.specs.declared.draft.Bucket.{Bucket}
 use Rattle.crush_map.specs.Map.{Map}
 use Rattle.crush_map.specs.Sound as sound

@@ -3,9 +3,9 @@
 -- In a map an item names its bucket by an id. Here it has the bucket, so a bucket that is an item
 -- of two others stands twice.
 use Rattle.std.specs.Prelude.{◌≡◌, ℕ, pos, true, List, [], ◌∷◌, Some, Contains}
-use Rattle.crush_types.specs.declared.ItemId.{ItemId}
-use Rattle.crush_types.specs.declared.Weight.{Weight}
-use Rattle.crush_types.specs.declared.Kind.{Kind}
+use Rattle.crush_map.specs.crush_types.specs.declared.ItemId.{ItemId}
+use Rattle.crush_map.specs.crush_types.specs.declared.Weight.{Weight}
+use Rattle.crush_map.specs.crush_types.specs.declared.Kind.{Kind}
 use Rattle.crush_map.specs.Map.{Map}
 use Rattle.crush_map.specs.Sound.{has_device}
 use Rattle.crush_bucket.specs.Bucket.{WeightedItem}

@@ -1,9 +1,9 @@
 -- Clients that were served, one by one.
 use Rattle.std.specs.Prelude.{ℕ, ◌≡◌, List, [], Option, Some, None}
-use Rattle.crush_http.specs.Serving.{ServesInput}
-use Rattle.crush_http.specs.declared.connection.Ended.{Ended}
-use Rattle.tenant_messages.specs.declared.call.Call.{Call}
-use Rattle.tenant_messages.specs.declared.reply.Reply.{Reply}
+use Rattle.crush_server.specs.crush_http.specs.Serving.{ServesInput}
+use Rattle.crush_server.specs.crush_http.specs.declared.connection.Ended.{Ended}
+use Rattle.tenant_core.specs.tenant_messages.specs.declared.call.Call.{Call}
+use Rattle.tenant_core.specs.tenant_messages.specs.declared.reply.Reply.{Reply}
 
 -- a client: what it sent and what it got, its calls and the replies to them
 pub record Client : Type 0 where

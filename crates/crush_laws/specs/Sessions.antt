@@ -2,10 +2,10 @@
 use Rattle.std.specs.Prelude.{ℕ, ◌≡◌, ◌≢◌, ◌⊎◌, List, slice_get, take, true, false, Option, Some, None}
 use Rattle.tenant_core.specs.Alone.{alone, calls_answered}
 use Rattle.tenant_core.specs.Step.{is_of}
-use Rattle.tenant_service.specs.History.{Kept, Session, acknowledged}
-use Rattle.tenant_messages.specs.declared.call.Call.{Call}
-use Rattle.tenant_messages.specs.declared.reply.Reply.{Reply}
-use Rattle.tenant_state.specs.State.{TenantState}
+use Rattle.crush_server.specs.tenant_service.specs.History.{Kept, Session, acknowledged}
+use Rattle.tenant_core.specs.tenant_messages.specs.declared.call.Call.{Call}
+use Rattle.tenant_core.specs.tenant_messages.specs.declared.reply.Reply.{Reply}
+use Rattle.tenant_core.specs.tenant_state.specs.State.{TenantState}
 
 -- the call at `place` is the tenant's, and was acknowledged with `reply`
 pub record IsAcknowledged (t : List ℕ) (session : Session) (place : ℕ) (call : Call) (reply : Reply) : Type 0 where

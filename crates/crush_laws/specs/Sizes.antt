@@ -1,8 +1,8 @@
 -- The parts of an inventory, counted: the bytes of its texts, and the elements of its lists.
 use Rattle.std.specs.Prelude.{ℕ, length}
 use Rattle.std.specs.List.{sum_by}
-use Rattle.crush_writing.specs.Canonical.{canonical}
-use Rattle.tenant_state.specs.State.{Inventory}
+use Rattle.tenant_core.specs.crush_text.specs.crush_writing.specs.Canonical.{canonical}
+use Rattle.tenant_core.specs.tenant_state.specs.State.{Inventory}
 
 -- the bytes of the canonical texts of its versions
 abbrev pub text_bytes : Inventory → ℕ

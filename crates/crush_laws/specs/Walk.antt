@@ -5,8 +5,8 @@
 -- recursion on the tree, which ends since the tree does.
 use Rattle.std.specs.Prelude.{ℕ, ◌==◌, ◌+◌, ◌*◌, ◌%◌, ◌&&◌, length, if◌then◌else◌}
 use Rattle.std.specs.Ordering.{int_eq}
-use Rattle.crush_types.specs.declared.ItemId.{ItemId}
-use Rattle.crush_types.specs.Kinds.{is_uniform}
+use Rattle.crush_map.specs.crush_types.specs.declared.ItemId.{ItemId}
+use Rattle.crush_map.specs.crush_types.specs.Kinds.{is_uniform}
 use Rattle.crush_bucket.specs.Bucket.{BucketView}
 use Rattle.crush_bucket.specs.Pick.{pick}
 use Rattle.crush_choose.specs.declared.walk.Reached.{Reached}

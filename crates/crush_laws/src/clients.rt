@@ -4,8 +4,8 @@ ghost use Rattle.std.specs.Prelude.{◌≡◌, ◌+◌, ℕ, List, length, map, 
 ghost use Rattle.std.specs.List.{All};
 ghost use Rattle.crush_server.specs.Clients.{Clients, ServesClients, ServesEach, all_sent};
 ghost use Rattle.crush_laws.specs.Served.{AreJust, Client, IsServed};
-ghost use Rattle.tenant_messages.specs.declared.call.Call.{Call};
-ghost use Rattle.tenant_messages.specs.declared.reply.Reply.{Reply};
+ghost use Rattle.tenant_core.specs.tenant_messages.specs.declared.call.Call.{Call};
+ghost use Rattle.tenant_core.specs.tenant_messages.specs.declared.reply.Reply.{Reply};
 
 /// Clients are served where each is served by itself, and the calls of all are those of the first,
 /// then those of the second, and so on, and so are the replies. Where contracts know the clients

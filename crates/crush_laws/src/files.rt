@@ -2,14 +2,14 @@
 
 ghost use Rattle.std.specs.Prelude.{◌≡◌, Ok};
 ghost use Rattle.sqlite_disk.specs.declared.Files.{Files};
-ghost use Rattle.sqlite_wal.specs.Files.{outcomes};
-ghost use Rattle.sqlite_wal.specs.Reads.{AreClean};
-ghost use Rattle.sqlite_wal.specs.Recovery.{Image};
-ghost use Rattle.sqlite_store.specs.declared.store.FileStore.{FileStore};
-ghost use Rattle.sqlite.specs.Files.{file_state, image_of};
-ghost use Rattle.sqlite.specs.Held.{Held};
-ghost use Rattle.sqlite.specs.Start.{FindsIn};
-ghost use Rattle.tenant_files.specs.Closed.{GivesBack};
+ghost use Rattle.crush_server.specs.tenant_files.specs.sqlite_wal.specs.Files.{outcomes};
+ghost use Rattle.crush_server.specs.tenant_files.specs.sqlite_wal.specs.Reads.{AreClean};
+ghost use Rattle.crush_server.specs.tenant_files.specs.sqlite_wal.specs.Recovery.{Image};
+ghost use Rattle.crush_server.specs.tenant_files.specs.sqlite_store.specs.declared.store.FileStore.{FileStore};
+ghost use Rattle.crush_server.specs.sqlite.specs.Files.{file_state, image_of};
+ghost use Rattle.crush_server.specs.sqlite.specs.Held.{Held};
+ghost use Rattle.crush_server.specs.sqlite.specs.Start.{FindsIn};
+ghost use Rattle.crush_server.specs.tenant_files.specs.Closed.{GivesBack};
 
 use sqlite_disk::Disk;
 

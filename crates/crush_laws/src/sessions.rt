@@ -6,11 +6,11 @@ ghost use Rattle.crush_map.specs.Sound.{IsEachOnce};
 ghost use Rattle.tenant_core.specs.Request.{request_of};
 ghost use Rattle.tenant_core.specs.Step.{is_of, step};
 ghost use Rattle.tenant_core.specs.declared.request.Action.{Action};
-ghost use Rattle.tenant_service.specs.History.{Explains, IsHistoryFor, IsKeptOf, IsSoundFor, Kept, MayLeave, Session, calls_of, joined, kept_acknowledged};
-ghost use Rattle.tenant_messages.specs.declared.call.Call.{Call};
-ghost use Rattle.tenant_messages.specs.declared.reply.Reply.{Reply};
-ghost use Rattle.tenant_state.specs.Receipts.{receipt_of};
-ghost use Rattle.tenant_state.specs.State.{TenantState, fresh};
+ghost use Rattle.crush_server.specs.tenant_service.specs.History.{Explains, IsHistoryFor, IsKeptOf, IsSoundFor, Kept, MayLeave, Session, calls_of, joined, kept_acknowledged};
+ghost use Rattle.tenant_core.specs.tenant_messages.specs.declared.call.Call.{Call};
+ghost use Rattle.tenant_core.specs.tenant_messages.specs.declared.reply.Reply.{Reply};
+ghost use Rattle.tenant_core.specs.tenant_state.specs.Receipts.{receipt_of};
+ghost use Rattle.tenant_core.specs.tenant_state.specs.State.{TenantState, fresh};
 ghost use Rattle.crush_laws.specs.Sessions.{HasNoDoubtOf, IsAcknowledged, IsInDoubt, IsOfSession, after_acknowledged, before_place};
 
 /// Only its creation makes an absent tenant, which then has nothing: no receipt of a dropped tenant

@@ -5,8 +5,8 @@ ghost use Rattle.std.specs.List.{sum_by};
 ghost use Rattle.std.specs.Map.{values_of};
 ghost use Rattle.crush_map.specs.Map.{Map};
 ghost use Rattle.tenant_cache.specs.Kept.{Kept, Ready, bytes_kept, kept_at};
-ghost use Rattle.tenant_state.specs.Size.{pool_size, size, version_size};
-ghost use Rattle.tenant_state.specs.State.{Inventory, TenantPool};
+ghost use Rattle.tenant_core.specs.tenant_state.specs.Size.{pool_size, size, version_size};
+ghost use Rattle.tenant_core.specs.tenant_state.specs.State.{Inventory, TenantPool};
 ghost use Rattle.crush_laws.specs.Sizes.{item_count, pair_count, step_count, text_bytes};
 
 /// An inventory takes at least the bytes of its texts, and beside them 8 for each item of a bucket,

@@ -2,11 +2,11 @@
 
 ghost use Rattle.std.specs.Prelude.{◌≡◌, ℕ, List, [], ◌∷◌, Option};
 ghost use Rattle.tenant_core.specs.States.{Found, Damaged, HasState};
-ghost use Rattle.tenant_service.specs.History.{IsHistoryFor};
-ghost use Rattle.tenant_service.specs.Served.{IsSound, LeavesSession, session};
-ghost use Rattle.tenant_messages.specs.declared.call.Call.{Call};
-ghost use Rattle.tenant_messages.specs.declared.reply.Reply.{Reply};
-ghost use Rattle.tenant_state.specs.State.{TenantState};
+ghost use Rattle.crush_server.specs.tenant_service.specs.History.{IsHistoryFor};
+ghost use Rattle.crush_server.specs.tenant_service.specs.Served.{IsSound, LeavesSession, session};
+ghost use Rattle.tenant_core.specs.tenant_messages.specs.declared.call.Call.{Call};
+ghost use Rattle.tenant_core.specs.tenant_messages.specs.declared.reply.Reply.{Reply};
+ghost use Rattle.tenant_core.specs.tenant_state.specs.State.{TenantState};
 ghost use Rattle.crush_laws.specs.Sessions.{HasNoDoubtOf, after_acknowledged};
 
 use tenant_core::TenantStore;

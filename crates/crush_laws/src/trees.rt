@@ -1,7 +1,7 @@
 //! Laws of walks over the tree of a map.
 
 ghost use Rattle.std.specs.Prelude.{◌≡◌, ◌<◌, ◌+◌, ℕ, length, true};
-ghost use Rattle.crush_types.specs.declared.ItemId.{ItemId};
+ghost use Rattle.crush_map.specs.crush_types.specs.declared.ItemId.{ItemId};
 ghost use Rattle.crush_map.specs.Map.{Map, IsMap};
 ghost use Rattle.crush_map.specs.Sound.{has_item};
 ghost use Rattle.crush_bucket.specs.Bucket.{BucketView};

@@ -1,7 +1,7 @@
 //! Laws of the bytes that are written of replies: each contract is about the definitions alone.
 
 ghost use Rattle.std.specs.Prelude.{◌≡◌, ◌≢◌, ◌<◌, ◌++◌, ◌+◌, ℕ, List, [], length, Some};
-ghost use Rattle.tenant_service.specs.Writing.{AppendsPart, shown_body};
+ghost use Rattle.crush_server.specs.tenant_service.specs.Writing.{AppendsPart, shown_body};
 
 /// Bytes that were written in part are a front of them, behind the bytes of before, and not all.
 pub fn a_part_is_not_all()

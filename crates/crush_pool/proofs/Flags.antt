@@ -3,8 +3,8 @@ use Rattle.std.proofs.Common.{◌≡◌, ◌<◌, ◌≤◌, ◌-◌, ℕ, Bool,
 use Rattle.std.proofs.Math.ListN.{drop_of_length-le, get_or-map}
 use Rattle.std.proofs.Math.Nat.{le_refl}
 use Rattle.std.proofs.lemmas.List.{get_or_default, length-map}
-use Rattle.crush_types.specs.DeviceValues.{Values, all, values_of, with_value}
-use Rattle.crush_types.proofs.DeviceValues.{nothing_given, pair_put, value-values_of}
+use Rattle.crush_map.specs.crush_types.specs.DeviceValues.{Values, all, values_of, with_value}
+use Rattle.crush_map.specs.crush_types.proofs.DeviceValues.{nothing_given, pair_put, value-values_of}
 use Rattle.crush_pool.specs.States.{flags_of, is_up, up_at, ups}
 use Rattle.crush_pool.specs.declared.states.DeviceState.{DeviceState}
 

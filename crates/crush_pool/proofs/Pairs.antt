@@ -10,13 +10,13 @@ use Rattle.std.proofs.lemmas.List.Folds.{list_all_at}
 use Rattle.std.proofs.lemmas.List.Sums.{passes_at_first}
 use Rattle.crush_map.specs.Faults.{has_number}
 use Rattle.crush_map.specs.declared.limits.TheConstants.{NUMBER_LIMIT}
-use Rattle.crush_types.specs.declared.ItemId.{ItemId}
+use Rattle.crush_map.specs.crush_types.specs.declared.ItemId.{ItemId}
 use Rattle.crush_bucket.specs.Tables.{TablesView}
 use Rattle.crush_choose.specs.Firstn.{slot_has}
 use Rattle.crush_choose.specs.Marks.{Slot}
-use Rattle.crush_types.specs.DeviceValues.{Values, all, first_given, value_at, values_of, with_value}
-use Rattle.crush_types.specs.declared.limits.TheConstants.{ID_COUNT}
-use Rattle.crush_types.proofs.DeviceValues.{nothing_given, pair_before, value-values_of}
+use Rattle.crush_map.specs.crush_types.specs.DeviceValues.{Values, all, first_given, value_at, values_of, with_value}
+use Rattle.crush_map.specs.crush_types.specs.declared.limits.TheConstants.{ID_COUNT}
+use Rattle.crush_map.specs.crush_types.proofs.DeviceValues.{nothing_given, pair_before, value-values_of}
 use Rattle.crush_pool.specs.Exceptions.{after_pair, after_pairs, are_pairs, excepted, exchanged, is_of_group, is_pair, pairs_of, targets_of}
 use Rattle.crush_pool.specs.Private.Pairs.{first_from, no_pair}
 use Rattle.crush_pool.specs.declared.exceptions.Pair.{Pair}

@@ -3,7 +3,7 @@
 -- `osd/OSDMap.cc`).
 use Rattle.std.specs.Prelude.{ℕ, pos, ◌==◌, ◌&&◌, ◌≤◌, nat_lt, nat_le, Bool, not, List, [], ◌∷◌, length, map, filter, count_by, Some, if◌then◌else◌}
 use Rattle.std.specs.List.{list_all}
-use Rattle.crush_types.specs.declared.ItemId.{ItemId}
+use Rattle.crush_map.specs.crush_types.specs.declared.ItemId.{ItemId}
 use Rattle.crush_map.specs.declared.limits.TheConstants.{NUMBER_LIMIT}
 use Rattle.crush_bucket.specs.Tables.{TablesView, has_device}
 use Rattle.crush_choose.specs.Firstn.{has, slot_has}

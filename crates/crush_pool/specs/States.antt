@@ -1,6 +1,6 @@
 -- The states of devices: a reweight, and up or down.
 use Rattle.std.specs.Prelude.{ℕ, Bool, true, List, map, slice_index_or}
-use Rattle.crush_types.specs.DeviceValues.{value_of, values_of}
+use Rattle.crush_map.specs.crush_types.specs.DeviceValues.{value_of, values_of}
 use Rattle.crush_pool.specs.declared.states.DeviceState.{DeviceState}
 
 -- the pairs of device and whether it is up

@@ -7,7 +7,7 @@ use Rattle.crush_map.specs.declared.draft.Step.TheVariants.{Take, SetChooseTries
 use Rattle.crush_choose.specs.Marks.{Slot}
 use Rattle.crush_choose.specs.Rules.{Running, with_settings, after_step, after_steps, after_rule, rule_answer, start}
 use Rattle.crush_choose.specs.Firstn.{slot_has}
-use Rattle.crush_types.specs.declared.ItemId.{ItemId}
+use Rattle.crush_map.specs.crush_types.specs.declared.ItemId.{ItemId}
 use Rattle.crush_pool.specs.Exceptions.{after_pair, after_pairs, device_item, excepted, exchanged, pairs_of, takes_effect}
 use Rattle.crush_pool.specs.declared.exceptions.Pair.{Pair}
 use Rattle.crush_pool.specs.Placements.{placed, up_of, is_up_slot, if_up}

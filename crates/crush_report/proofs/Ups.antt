@@ -15,7 +15,7 @@ use Rattle.crush_choose.specs.Weights.{weights_of}
 use Rattle.crush_choose.specs.Firstn.{has, slot_has}
 use Rattle.crush_choose.specs.Weights.{weight_at}
 use Rattle.crush_bucket.specs.Tables.{has_device}
-use Rattle.crush_types.specs.declared.ItemId.{ItemId}
+use Rattle.crush_map.specs.crush_types.specs.declared.ItemId.{ItemId}
 use Rattle.crush_pool.specs.Exceptions.{after_pair, after_pairs, device_item, excepted, exchanged, pairs_of, takes_effect}
 use Rattle.crush_pool.specs.declared.exceptions.Pair.{Pair}
 use Rattle.crush_pool.specs.Placements.{id_is_up, if_up, is_up_slot, placed, primary_of, up_of}

@@ -4,14 +4,14 @@ use Rattle.std.proofs.Common.{◌≡◌, ◌≢◌, ◌∙◌, ◌||◌, ℕ, �
 use Rattle.std.specs.Prelude.{⊤}
 use Rattle.sqlite_disk.specs.declared.Disk as disk
 use Rattle.sqlite_disk.specs.declared.Files.{Files}
-use Rattle.sqlite_wal.proofs.LogLemmas.{SeenMayStay}
-use Rattle.sqlite_wal.specs.Reads.{AreClean}
-use Rattle.sqlite_wal.specs.Recovery.{Image}
-use Rattle.sqlite_store.specs.declared.store.FileStore.{FileStore}
+use Rattle.tenant_files.specs.sqlite_wal.proofs.LogLemmas.{SeenMayStay}
+use Rattle.tenant_files.specs.sqlite_wal.specs.Reads.{AreClean}
+use Rattle.tenant_files.specs.sqlite_wal.specs.Recovery.{Image}
+use Rattle.tenant_files.specs.sqlite_store.specs.declared.store.FileStore.{FileStore}
 use Rattle.sqlite.specs.Files.{file_state, over_files}
 use Rattle.sqlite.specs.Held.{Held}
 use Rattle.sqlite.specs.State.{HasCleanDisk}
-use Rattle.table_schema.specs.Ready.{IsReady}
+use Rattle.tenant_store.specs.table_schema.specs.Ready.{IsReady}
 use Rattle.tenant_core.specs.States.{Outcomes, Same, States}
 use Rattle.tenant_files.proofs.ClosedFacts.{given_clean}
 use Rattle.tenant_files.proofs.StoredFacts.{meets_same, same_states}
@@ -23,9 +23,9 @@ use Rattle.tenant_files.specs.Stored.{MayStandFor}
 use Rattle.tenant_files.specs.Used.{AreAsBefore}
 use Rattle.tenant_files.specs.declared.fault.FileFault.{FileFault}
 use Rattle.tenant_service.specs.Served.{IsSession, ServesSession}
-use Rattle.tenant_messages.specs.declared.call.Call.{Call}
-use Rattle.tenant_messages.specs.declared.reply.Reply.{Reply}
-use Rattle.tenant_tables.specs.Rows.{StandsFor, StatesIn}
+use Rattle.tenant_core.specs.tenant_messages.specs.declared.call.Call.{Call}
+use Rattle.tenant_core.specs.tenant_messages.specs.declared.reply.Reply.{Reply}
+use Rattle.tenant_store.specs.tenant_tables.specs.Rows.{StandsFor, StatesIn}
 use Rattle.tenant_store.specs.Shown.{HasState, IsHonest, MayLeave}
 use Rattle.tenant_store.specs.Laws.{works_below}
 use Rattle.crush_server.proofs.Each.{clients_map}

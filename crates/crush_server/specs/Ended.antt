@@ -2,18 +2,18 @@
 use Rattle.std.specs.Prelude.{ℕ, ◌≡◌, ◌≢◌, ◌<◌, ◌≤◌, List, Bool, true, false, Option, Result, Ok, Err, ⊤}
 use Rattle.sqlite_disk.specs.declared.Disk as disk
 use Rattle.sqlite_disk.specs.declared.Files.{Files}
-use Rattle.sqlite_wal.specs.Reads.{AreClean}
-use Rattle.sqlite_wal.specs.Recovery.{Image}
-use Rattle.sqlite_store.specs.declared.store.FileStore.{FileStore}
+use Rattle.tenant_files.specs.sqlite_wal.specs.Reads.{AreClean}
+use Rattle.tenant_files.specs.sqlite_wal.specs.Recovery.{Image}
+use Rattle.tenant_files.specs.sqlite_store.specs.declared.store.FileStore.{FileStore}
 use Rattle.sqlite.specs.Files.{file_state, over_files}
 use Rattle.sqlite.specs.Held.{Held}
 use Rattle.tenant_files.specs.Stored.{MayStandFor}
 use Rattle.tenant_files.specs.Used.{AreAsBefore, UsesFile, UsesFiles}
 use Rattle.tenant_files.specs.declared.fault.FileFault.{FileFault}
 use Rattle.tenant_service.specs.Served.{ServesSession}
-use Rattle.tenant_messages.specs.declared.call.Call.{Call}
-use Rattle.tenant_messages.specs.declared.reply.Reply.{Reply}
-use Rattle.tenant_tables.specs.Rows.{StandsFor, StatesIn}
+use Rattle.tenant_core.specs.tenant_messages.specs.declared.call.Call.{Call}
+use Rattle.tenant_core.specs.tenant_messages.specs.declared.reply.Reply.{Reply}
+use Rattle.tenant_store.specs.tenant_tables.specs.Rows.{StandsFor, StatesIn}
 use Rattle.crush_server.specs.Clients.{Clients, ServesClients}
 use Rattle.crush_server.specs.declared.fault.ServerFault.{ServerFault}
 use Rattle.crush_server.specs.declared.fault.ServerFault.TheVariants.{NoMemory, Store, CannotListen, WriteFault}

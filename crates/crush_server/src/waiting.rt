@@ -43,7 +43,7 @@ impl<'a, C: Clock> Waiting<'a, C> {
     }
 
     /// Begins again at 0 seconds, for the next client.
-    pub(crate) fn restart(&self) {
+    pub fn restart(&self) {
         self.waited.set(NOTHING);
     }
 

@@ -5,7 +5,7 @@ use Rattle.std.proofs.Common.{◌≡◌, ◌∙◌, ◌+◌, ◌==◌, ◌||◌,
 use Rattle.std.proofs.lemmas.List.Folds.{list_any-append}
 use Rattle.std.proofs.lemmas.List.Sums.{fold-append}
 use Rattle.crush_map.specs.declared.limits.TheConstants.{BUCKET_LIMIT, ITEM_LIMIT}
-use Rattle.crush_types.specs.Weights.{has_equal_weights}
+use Rattle.crush_map.specs.crush_types.specs.Weights.{has_equal_weights}
 use Rattle.crush_map.specs.declared.fault.FaultCode.{FaultCode}
 use Rattle.crush_map.specs.declared.fault.FaultCode.TheVariants.{M1, M2, M3, M4, M5, M6, M7, M8, M9, M10, M12, M15}
 use Rattle.crush_map.specs.declared.fault.Element.{Element}
@@ -16,11 +16,11 @@ use Rattle.crush_map.specs.declared.draft.Bucket.{Bucket}
 use Rattle.crush_map.specs.declared.draft.Step.{Step}
 use Rattle.crush_map.specs.declared.draft.Step.TheVariants as draft_steps
 use Rattle.crush_map.specs.declared.draft.Rule.{Rule}
-use Rattle.crush_types.specs.declared.ItemId.{ItemId}
-use Rattle.crush_types.specs.declared.Weight.{Weight}
-use Rattle.crush_types.specs.declared.Kind.{Kind}
+use Rattle.crush_map.specs.crush_types.specs.declared.ItemId.{ItemId}
+use Rattle.crush_map.specs.crush_types.specs.declared.Weight.{Weight}
+use Rattle.crush_map.specs.crush_types.specs.declared.Kind.{Kind}
 use Rattle.crush_map.specs.Faults.{Known, Ids, first_of, or_else, ◌when◌, at_place, first_in, nothing, no_ids, has_number, has_id, has_name, with_id, is_name, is_bucket_id, is_too_heavy, items_fault, contents_fault, type_fault, device_fault, bucket_fault, rule_fault, choose_fault, step_fault, steps_fault, rule_head_checks, end_fault, with_type, with_device, with_bucket, with_rule, known_types, known_devices, known_buckets, known_rules, element_fault, first_fault}
-use Rattle.crush_types.specs.Kinds.{is_uniform}
+use Rattle.crush_map.specs.crush_types.specs.Kinds.{is_uniform}
 use Rattle.crush_grammar.specs.Syntax.{Text, Early, Late, early_declares, late_declares, text_declares}
 use Rattle.crush_grammar.specs.Syntax.Early.{ATunable, ADevice, AType}
 use Rattle.crush_grammar.specs.Syntax.Late.{ABucket, ARule}

@@ -8,8 +8,8 @@ use Rattle.crush_map.specs.declared.fault.FaultCode.TheVariants.{M1, M7, M12}
 use Rattle.crush_map.specs.declared.draft.Device.{Device}
 use Rattle.crush_map.specs.declared.draft.Bucket.{Bucket}
 use Rattle.crush_map.specs.declared.draft.Step.{Step}
-use Rattle.crush_types.specs.Kinds.{is_straw2}
-use Rattle.crush_types.specs.Weights.{total_weight}
+use Rattle.crush_map.specs.crush_types.specs.Kinds.{is_straw2}
+use Rattle.crush_map.specs.crush_types.specs.Weights.{total_weight}
 use Rattle.crush_map.specs.Faults.{Known, first_of, ◌when◌, device_fault, device_checks, bucket_fault, bucket_checks, contents_fault, items_fault, is_heavy, is_too_heavy, no_ids, rule_fault, rule_head_fault, rule_head_checks, steps_fault}
 use Rattle.crush_grammar.specs.declared.declaration.Setting.TheVariants as settings
 use Rattle.crush_grammar.specs.declared.declaration.DeclaredRule.{DeclaredRule}

@@ -4,7 +4,7 @@ use Rattle.std.proofs.lemmas.List.{append-nil, map-append}
 use Rattle.std.proofs.lemmas.List.Concat.{flat_map-append}
 use Rattle.std.proofs.lemmas.List.Sorted.{IsPermutation-refl}
 use Rattle.std.specs.List.{flat_map, list_any, AllByRecursion}
-use Rattle.crush_types.specs.Kinds.{is_straw2}
+use Rattle.crush_map.specs.crush_types.specs.Kinds.{is_straw2}
 use Rattle.crush_map.specs.Mark.{straw2_mark}
 use Rattle.crush_map.specs.Map.{Map, IsMap, IsMapOf}
 use Rattle.crush_map.specs.Sound.{IsTypeAt, IsDeviceAt, IsBucketAt, IsRuleAt}

@@ -10,13 +10,13 @@ use Rattle.crush_map.specs.declared.draft.Bucket.{Bucket}
 use Rattle.crush_map.specs.declared.draft.Rule.{Rule}
 use Rattle.crush_map.specs.declared.draft.Step.{Step}
 use Rattle.crush_map.specs.declared.draft.Step.TheVariants.{Take, SetChooseTries, SetLeafTries, SetVaryR, SetStable, Choose, Emit}
-use Rattle.crush_types.specs.declared.ItemId.{ItemId}
-use Rattle.crush_types.specs.declared.Weight.{Weight}
+use Rattle.crush_map.specs.crush_types.specs.declared.ItemId.{ItemId}
+use Rattle.crush_map.specs.crush_types.specs.declared.Weight.{Weight}
 use Rattle.crush_map.specs.Faults.{is_name, is_reserved, are_in_range}
 use Rattle.crush_map.specs.Map.{Map, draft_of}
 use Rattle.crush_map.specs.Laws.{HasNoFault}
 use Rattle.crush_map.specs.Sound.{IsEachOnce, IsTypeAt, IsDeviceAt, IsBucketAt, IsRuleAt, IsItemAt, IsStep, has_type, has_device, has_bucket, has_item, same_id}
-use Rattle.crush_types.specs.Weights.{total_weight}
+use Rattle.crush_map.specs.crush_types.specs.Weights.{total_weight}
 use Rattle.crush_map.specs.WeightText.{text_of, weight_of}
 use Rattle.crush_writing.specs.Canonical.{type_name, device_name, bucket_name, item_name}
 use Rattle.crush_text.proofs.Found.{any_named, first_name, holds_there}

@@ -6,7 +6,7 @@ use Rattle.std.proofs.lemmas.List.Sums.{sum_by-cons}
 use Rattle.std.specs.List.{flat_map, list_all, AllByRecursion}
 use Rattle.std.specs.Fmt.{decimal, signed_decimal}
 use Rattle.crush_map.specs.declared.limits.TheConstants.{COUNT_LIMIT, NAME_LIMIT, NUMBER_LIMIT, RULE_ID_LIMIT, TRIES_LIMIT}
-use Rattle.crush_types.specs.declared.limits.TheConstants.{ID_COUNT}
+use Rattle.crush_map.specs.crush_types.specs.declared.limits.TheConstants.{ID_COUNT}
 use Rattle.crush_map.specs.declared.draft.TypeName.{TypeName}
 use Rattle.crush_map.specs.declared.draft.Device.{Device}
 use Rattle.crush_map.specs.declared.draft.Bucket.{Bucket}
@@ -14,11 +14,11 @@ use Rattle.crush_map.specs.declared.draft.Rule.{Rule}
 use Rattle.crush_map.specs.declared.draft.Step.{Step}
 use Rattle.crush_map.specs.declared.draft.Step.TheVariants.{Take, SetChooseTries, SetLeafTries, SetVaryR, SetStable, Choose, Emit}
 use Rattle.crush_map.specs.declared.draft.Tunables.{Tunables}
-use Rattle.crush_types.specs.declared.ItemId.{ItemId}
-use Rattle.crush_types.specs.declared.Weight.{Weight}
-use Rattle.crush_types.specs.declared.Kind.{Kind}
-use Rattle.crush_types.specs.declared.Kind.TheVariants.{Uniform, List as ListKind, Tree, Straw2}
-use Rattle.crush_types.specs.Kinds.{is_straw2, kind_name}
+use Rattle.crush_map.specs.crush_types.specs.declared.ItemId.{ItemId}
+use Rattle.crush_map.specs.crush_types.specs.declared.Weight.{Weight}
+use Rattle.crush_map.specs.crush_types.specs.declared.Kind.{Kind}
+use Rattle.crush_map.specs.crush_types.specs.declared.Kind.TheVariants.{Uniform, List as ListKind, Tree, Straw2}
+use Rattle.crush_map.specs.crush_types.specs.Kinds.{is_straw2, kind_name}
 use Rattle.crush_map.specs.Faults.{is_name, is_name_byte, is_reserved}
 use Rattle.crush_map.specs.Map.{Map}
 use Rattle.crush_map.specs.WeightText.{text_of, weight_of}

@@ -14,9 +14,9 @@ use Rattle.crush_map.specs.declared.draft.Step.{Step}
 use Rattle.crush_map.specs.declared.draft.Step.TheVariants as draft_steps
 use Rattle.crush_map.specs.declared.draft.Rule.{Rule}
 use Rattle.crush_map.specs.declared.draft.MapDraft.{MapDraft}
-use Rattle.crush_types.specs.declared.ItemId.{ItemId}
-use Rattle.crush_types.specs.declared.Weight.{Weight}
-use Rattle.crush_types.specs.Weights.{total_weight}
+use Rattle.crush_map.specs.crush_types.specs.declared.ItemId.{ItemId}
+use Rattle.crush_map.specs.crush_types.specs.declared.Weight.{Weight}
+use Rattle.crush_map.specs.crush_types.specs.Weights.{total_weight}
 use Rattle.crush_map.specs.Faults.{◌when◌, or_else, first_of, Known, nothing, has_number, are_in_range, type_fault, device_fault, bucket_fault, rule_head_fault, step_fault, end_fault, with_type, with_device, with_bucket, with_rule}
 use Rattle.crush_text.specs.Places.{wrong_place, in_place}
 use Rattle.crush_grammar.specs.declared.code.TextCode.TheVariants.{X5, Map}

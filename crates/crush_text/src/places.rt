@@ -2,8 +2,8 @@
 
 ghost use Rattle.std.specs.Prelude.{◌≡◌, ◌<◌, ◌==◌, ℕ, List, IfOk, length, slice_index_or, false, Some, None, if◌then◌else◌};
 ghost use Rattle.std.specs.Option.{option_map_or, option_or};
-ghost use Rattle.crush_types.specs.declared.ItemId.{ItemId};
-ghost use Rattle.crush_types.specs.declared.Weight.{Weight};
+ghost use Rattle.crush_map.specs.crush_types.specs.declared.ItemId.{ItemId};
+ghost use Rattle.crush_map.specs.crush_types.specs.declared.Weight.{Weight};
 ghost use Rattle.crush_text.specs.Places as spec;
 ghost use Rattle.crush_text.specs.Private.Tables.{arrange};
 

@@ -4,7 +4,7 @@ ghost use Rattle.std.specs.Prelude.{◌≡◌, ◌≤◌, ◌++◌, ◌∷◌, [
 ghost use Rattle.std.specs.BTreeMap.{get_by_text};
 ghost use Rattle.std.specs.Option.{option_map_or};
 ghost use Rattle.crush_map.specs.declared.limits.TheConstants.{ITEM_LIMIT, TOTAL_WEIGHT_LIMIT};
-ghost use Rattle.crush_types.specs.Weights.{total_weight};
+ghost use Rattle.crush_map.specs.crush_types.specs.Weights.{total_weight};
 ghost use Rattle.crush_text.specs.Judging.{of_bucket, of_device, undeclared_number};
 ghost use Rattle.crush_text.specs.Private.Tables.{first_value};
 

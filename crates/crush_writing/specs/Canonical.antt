@@ -13,9 +13,9 @@ use Rattle.crush_map.specs.declared.draft.Step.{Step}
 use Rattle.crush_map.specs.declared.draft.Step.TheVariants.{Take, SetChooseTries, SetLeafTries, SetVaryR, SetStable, Choose, Emit}
 use Rattle.crush_map.specs.declared.draft.Rule.{Rule}
 use Rattle.crush_map.specs.declared.draft.Tunables.{Tunables}
-use Rattle.crush_types.specs.declared.ItemId.{ItemId}
-use Rattle.crush_types.specs.declared.Weight.{Weight}
-use Rattle.crush_types.specs.Kinds.{is_straw2, kind_name}
+use Rattle.crush_map.specs.crush_types.specs.declared.ItemId.{ItemId}
+use Rattle.crush_map.specs.crush_types.specs.declared.Weight.{Weight}
+use Rattle.crush_map.specs.crush_types.specs.Kinds.{is_straw2, kind_name}
 use Rattle.crush_map.specs.Mark.{straw2_mark}
 use Rattle.crush_map.specs.Map.{Map}
 use Rattle.crush_map.specs.WeightText.{text_of}

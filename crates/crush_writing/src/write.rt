@@ -4,7 +4,7 @@ ghost use Rattle.std.specs.Prelude.{◌≡◌, ◌++◌, ◌∷◌, [], codes, I
 ghost use Rattle.std.specs.Fmt.{decimal, signed_decimal};
 ghost use Rattle.std.specs.List.{flat_map, list_any};
 ghost use Rattle.crush_map.specs.Map.{IsMap};
-ghost use Rattle.crush_types.specs.Kinds.{is_straw2};
+ghost use Rattle.crush_map.specs.crush_types.specs.Kinds.{is_straw2};
 ghost use Rattle.crush_writing.specs.Canonical as spec;
 
 use crate::lookup::Names;

@@ -3,12 +3,11 @@
 use crate::same::assert_same_at;
 use crate::streams::Stream;
 use common_tests::streams::{Cuts, MANY, Reader, Writer};
-use crush_http::{Buffers, Ended, serve, serve_with};
+use crush_http::{Buffers, Ended, MemoryStore, Service, serve, serve_with};
 use std::alloc::Global;
 use std::io::{Read, Write};
 use std::process::Abort;
 use tenant_core::TenantStore;
-use tenant_service::{MemoryStore, Service};
 
 /// Makes a service over a new store in memory.
 pub(crate) fn new_service(rt: &impl Abort, alloc: Global) -> Service<MemoryStore> {

@@ -1,6 +1,6 @@
 //! Streams of messages and their replies.
 
-use crate::connections::{assert_replies, connect_to, new_service};
+use crate::connections::{assert_replies, connect, connect_to, new_service};
 use crate::same::assert_same_at;
 use common_tests::streams::{Cuts, MANY};
 use crush_http::{Buffers, Ended};
@@ -76,4 +76,38 @@ fn a_stream_is_answered_alike_wherever_it_is_cut(rt: HostRuntime) {
     for first in 1..STREAM.len() {
         assert_cut_at(&rt, rt.alloc(), &mut buffers, first);
     }
+}
+
+/// A message that creates a tenant, and the head of one with a body of `LONG_BODY` bytes.
+const LONG_FRONT: &[u8] =
+    b"PUT /t/a HTTP/1.1\r\n\r\nPOST /t/a/pick HTTP/1.1\r\nContent-Length: 6000\r\n\r\n";
+
+/// The length of that body: blanks, which JSON passes over, and then a pick.
+const LONG_BODY: usize = 6_000;
+
+/// The pick, from a list bucket of one item.
+const PICK: &[u8] =
+    b"{\"bucket\":{\"id\":-1,\"items\":[{\"item\":4,\"weight\":65536}],\"kind\":\"list\"},\"r\":0,\"x\":0}";
+
+/// The replies to the two messages: the pick is of the one item.
+const PICKED: &[u8] =
+    b"HTTP/1.1 201 Created\r\nContent-Length: 24\r\nContent-Type: application/json\r\n\r\n{\"epoch\":0,\"tenant\":\"a\"}HTTP/1.1 200 OK\r\nContent-Length: 10\r\nContent-Type: application/json\r\n\r\n{\"item\":4}";
+
+/// Makes the two messages.
+fn long_stream(rt: &impl Abort, alloc: Global) -> Vec<u8> {
+    let mut input = Vec::new(alloc);
+    input.extend_from_slice(LONG_FRONT).expect(rt, "no memory");
+    for _blank in PICK.len()..LONG_BODY {
+        input.push(b' ').expect(rt, "no memory");
+    }
+    input.extend_from_slice(PICK).expect(rt, "no memory");
+    input
+}
+
+#[test]
+fn a_long_body_may_come_byte_by_byte(rt: HostRuntime) {
+    let input = long_stream(&rt, rt.alloc());
+    let (ended, written) = connect(&rt, rt.alloc(), &input, Cuts::each(1), MANY, MANY);
+    assert_same_at(&rt, [0, 0], &ended, &Ended::Closed);
+    assert_same_at(&rt, [0, 1], &written.as_slice(), &PICKED);
 }

@@ -5,7 +5,7 @@ ghost use Rattle.crush_bucket.specs.Tables.{tables_of};
 ghost use Rattle.crush_pool.specs.Contents.{content_of};
 ghost use Rattle.crush_pool.specs.Exceptions.{are_pairs};
 ghost use Rattle.crush_pool.specs.Placements.{rule_numbered};
-ghost use Rattle.crush_writing.specs.Canonical.{canonical};
+ghost use Rattle.crush_text.specs.crush_writing.specs.Canonical.{canonical};
 
 use crate::same::assert_same;
 use crush_bucket::{Scratch, Tables};

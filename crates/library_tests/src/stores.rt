@@ -3,7 +3,7 @@
 ghost use Rattle.std.specs.Prelude.{◌≡◌, false, IsTrue};
 ghost use Rattle.sqlite.specs.Held.{state};
 ghost use Rattle.sqlite.specs.State.{HasCleanDisk};
-ghost use Rattle.tenant_state.specs.State.{CanMake, fresh};
+ghost use Rattle.tenant_core.specs.tenant_state.specs.State.{CanMake, fresh};
 
 use crate::tenants::first_change;
 use sqlite::{Alter, Connection};

@@ -1,7 +1,7 @@
 //! Calls of `tenant_core`.
 
 ghost use Rattle.std.specs.Prelude.{IfOk};
-ghost use Rattle.tenant_state.specs.State.{CanMake, fresh};
+ghost use Rattle.tenant_core.specs.tenant_state.specs.State.{CanMake, fresh};
 
 use crate::same::assert_same;
 use common_tests::imports::FIRST;

@@ -182,3 +182,17 @@ fn bytes_that_were_moved_are_told_where_the_clock_fails(rt: HostRuntime) {
     assert_read(&rt, &mut client);
     assert_not_read(&rt, &mut client, ErrorKind::TimedOut);
 }
+
+#[test]
+fn a_clock_that_failed_counts_for_one_client_alone(rt: HostRuntime) {
+    let clock = Hand::new(1);
+    let interrupts = Cell::new(0);
+    let waiting = Waiting::new(&clock);
+    let mut client = client(&clock, 0, &interrupts, &waiting);
+    assert_read(&rt, &mut client);
+    assert_not_read(&rt, &mut client, ErrorKind::TimedOut);
+    // the next client comes, and the clock can be read again
+    clock.left.set(MANY);
+    waiting.restart();
+    assert_read(&rt, &mut client);
+}

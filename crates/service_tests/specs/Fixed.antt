@@ -1,6 +1,6 @@
 -- The names of a store of the tests.
 use Rattle.std.specs.Prelude.{ℕ, ◌==◌, List, [], ◌∷◌, Bool, false, if◌then◌else◌, Option, Some, None}
-use Rattle.tenant_state.specs.State.{TenantState, fresh}
+use Rattle.tenant_core.specs.tenant_state.specs.State.{TenantState, fresh}
 
 -- whether a name begins with a byte
 abbrev pub begins_with : ℕ → List ℕ → Bool

@@ -2,14 +2,13 @@
 //! of loads.
 
 ghost use Rattle.std.specs.Prelude.{◌≡◌, false, IfOk};
-ghost use Rattle.tenant_state.specs.State.{fresh, inventory_of};
+ghost use Rattle.tenant_core.specs.tenant_state.specs.State.{fresh, inventory_of};
 ghost use Rattle.service_tests.specs.Fixed.{begins_with};
 
 use std::alloc::{AllocError, Global};
 use std::rc::Rc;
-use tenant_core::{StoreFault, TenantStore};
+use tenant_core::{Change, Inventory, Receipt, StoreFault, TenantStore};
 use tenant_service::Service;
-use tenant_state::{Change, Inventory, Receipt};
 
 fn begins_with(byte: u8, name: &str) -> bool
     ensures { result ≡ begins_with byte name.now }

@@ -3,8 +3,10 @@
 use crate::same::assert_same;
 use std::alloc::{AllocError, Global};
 use std::process::Abort;
-use tenant_core::{Decision, Effect, Routes, StoreFault, decide, read_request, store_fault};
-use tenant_messages::{CallParts, Refusal, Reply};
+use tenant_core::{
+    CallParts, Decision, Effect, Refusal, Reply, Routes, StoreFault, decide, read_request,
+    store_fault,
+};
 
 /// Decides on a request without a body to the path of tenant a, which is absent. It is a function
 /// of its own since a function that holds both a request and a decision takes long to prove.

@@ -2,8 +2,8 @@
 use Rattle.std.proofs.Common.{◌≡◌, ◌≢◌, ◌⊎◌, inl, inr, ◌↔◌, ◌∙◌, ℕ, List, Bool, true, false, Option, Result, Ok, Err, OnOk, OnErr, bytes_eq, refl, ap, arith, sym}
 use Rattle.std.proofs.lemmas.Slice.Eq.{bytes_eq-Decides}
 use Rattle.tenant_core.specs.States.{Damaged, Found, HasState, LeavesAsItWasOr, Shows}
-use Rattle.tenant_messages.specs.declared.StoreFault.{StoreFault}
-use Rattle.tenant_state.specs.State.{TenantState}
+use Rattle.tenant_core.specs.tenant_messages.specs.declared.StoreFault.{StoreFault}
+use Rattle.tenant_core.specs.tenant_state.specs.State.{TenantState}
 
 -- the disk holds the state s of the name t
 abbrev pub Holds : (List ℕ → Option TenantState) → List ℕ → Option TenantState → Type 0

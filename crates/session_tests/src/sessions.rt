@@ -4,15 +4,14 @@ ghost use Rattle.std.specs.Prelude.{ℕ, List, [], ◌∷◌, Option, None, IfOk
 ghost use Rattle.tenant_core.specs.States.{Shows};
 ghost use Rattle.tenant_service.specs.History.{IsHistoryFor};
 ghost use Rattle.tenant_service.specs.Served.{IsSound, LeavesSession, session};
-ghost use Rattle.tenant_state.specs.State.{TenantState};
+ghost use Rattle.tenant_core.specs.tenant_state.specs.State.{TenantState};
 
 use crate::stopping::Stopping;
 use common_tests::rows::{CREATION_OF_A, IMPORT_BY_A, Mismatch, Row, calls_of, check_reply};
 use std::alloc::{AllocError, Global};
 use std::process::Abort;
 use std::test::Fail;
-use tenant_core::TenantStore;
-use tenant_messages::Call;
+use tenant_core::{Call, TenantStore};
 use tenant_service::laws::memory_stores_are_honest;
 use tenant_service::{MemoryStore, Service, SessionEnd};
 

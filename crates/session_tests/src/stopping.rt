@@ -4,9 +4,8 @@ ghost use Rattle.std.specs.Prelude.{◌≡◌, Err};
 ghost use Rattle.tenant_core.specs.StoreReply.{is_failed};
 
 use std::rc::Rc;
-use tenant_core::{StoreFault, TenantStore};
+use tenant_core::{Change, Inventory, Receipt, StoreFault, TenantStore};
 use tenant_service::MemoryStore;
-use tenant_state::{Change, Inventory, Receipt};
 
 /// A store over one in memory, which stands for a disk: it outlives a stop.
 #[derive(Drop)]

@@ -7,7 +7,7 @@ use common_tests::imports::{FIRST, OTHER, SECOND};
 use crush_map::Text;
 use std::alloc::Global;
 use std::process::Abort;
-use tenant_messages::{Bytes, Call, Reply};
+use tenant_core::{Bytes, Call, Reply};
 use tenant_service::{MemoryStore, Service, SessionEnd};
 
 /// The number of sessions that are opened. At most `TRIES` are tried for that.

@@ -10,9 +10,8 @@ use std::alloc::Global;
 use std::num::NonZeroUsize;
 use std::process::Abort;
 use tenant_cache::{Bytes, CachedStore};
-use tenant_core::{Routes, TenantStore};
+use tenant_core::{Call, Reply, Routes, TenantStore};
 use tenant_files::close_store;
-use tenant_messages::{Call, Reply};
 use tenant_service::{Service, SessionEnd};
 use tenant_store::Store;
 

@@ -6,7 +6,7 @@ use crate::session::{acknowledged, session};
 use common_tests::rows::{CREATION_OF_A, IMPORT_BY_A, Row, calls_of, check_reply};
 use std::alloc::Global;
 use std::process::Abort;
-use tenant_messages::{Call, Reply};
+use tenant_core::{Call, Reply};
 use tenant_service::SessionEnd;
 
 /// A number greater than that of the calls that a session makes on a disk.

@@ -3,12 +3,12 @@
 ghost use Rattle.std.specs.Prelude.{◌≡◌, ◌⊎◌, false, IfOk, IfErr, IsTrue};
 ghost use Rattle.sqlite.specs.Held.{state};
 ghost use Rattle.sqlite.specs.State.{HasCleanDisk};
-ghost use Rattle.sqlite_trees.specs.Tree.{Trees};
-ghost use Rattle.sqlite_trees.specs.View.{IsClean};
+ghost use Rattle.tenant_store.specs.table_schema.specs.sqlite_trees.specs.Tree.{Trees};
+ghost use Rattle.tenant_store.specs.table_schema.specs.sqlite_trees.specs.View.{IsClean};
 ghost use Rattle.tenant_core.specs.States.{Same};
-ghost use Rattle.tenant_tables.specs.Rows.{StandsFor, StatesIn};
+ghost use Rattle.tenant_store.specs.tenant_tables.specs.Rows.{StandsFor, StatesIn};
 ghost use Rattle.tenant_store.specs.Shown.{IsHonest};
-ghost use Rattle.tenant_tables.specs.Opened.{IsStrange};
+ghost use Rattle.tenant_store.specs.tenant_tables.specs.Opened.{IsStrange};
 
 use sqlite::{Alter, Connection};
 use std::alloc::Global;

@@ -4,7 +4,7 @@ use Rattle.crush_pool.specs.Contents.{Content, content_of}
 use Rattle.crush_map.specs.Map.{IsMap, Map}
 use Rattle.crush_pool.specs.Placers.{PoolOnMap}
 use Rattle.crush_text.specs.MapText.{IsTextOf}
-use Rattle.crush_writing.specs.Canonical.{canonical}
+use Rattle.crush_text.specs.crush_writing.specs.Canonical.{canonical}
 use Rattle.tenant_cache.specs.Last.{IsOf}
 
 on_each_map : (P : PoolOnMap → Type 0) (p : PoolOnMap) → ((m : Map) → IsMap m → IsTextOf (canonical m) m) → ((m n : Map) → IsMap m → IsTextOf (canonical m) n → n ≡ m)

@@ -12,9 +12,9 @@ use Rattle.crush_pool.specs.declared.pool.PoolParts.{PoolParts}
 use Rattle.crush_report.specs.Reports as reports
 use Rattle.crush_cache.specs.Caches.{KeepsNumbers, Numbered}
 use Rattle.crush_pool.specs.Contents.{content_of}
-use Rattle.tenant_messages.specs.declared.reply.Problem.TheVariants.{NoRule}
+use Rattle.tenant_core.specs.tenant_messages.specs.declared.reply.Problem.TheVariants.{NoRule}
 use Rattle.tenant_reports.specs.Impact as impact
-use Rattle.tenant_resources.specs.Groups as groups
+use Rattle.tenant_core.specs.tenant_resources.specs.Groups as groups
 use Rattle.tenant_state.specs.State.{Inventory, TenantPool, TenantState, if_there, newest, on_newest, on_version, pool, version}
 use Rattle.tenant_core.specs.Cached.{Asks, IsCachedFor}
 use Rattle.tenant_core.specs.States.{HasInventory, Same, States}

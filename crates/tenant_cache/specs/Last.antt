@@ -3,7 +3,7 @@ use Rattle.std.specs.Prelude.{◌≡◌, Option}
 use Rattle.crush_pool.specs.Contents.{Content}
 use Rattle.crush_map.specs.Map.{IsMap, Map}
 use Rattle.crush_pool.specs.Placers.{PoolOnMap}
-use Rattle.crush_writing.specs.Canonical.{canonical}
+use Rattle.crush_text.specs.crush_writing.specs.Canonical.{canonical}
 
 -- a content, and what was found for it, unless that is too large
 pub record OfContent (G : Type 0) : Type 0 where

@@ -132,7 +132,7 @@ impl Last<Touches> {
 impl Last<UpLists> {
     ghost use Rattle.std.specs.Prelude.{◌≡◌, ◌≤◌, ◌*◌, Some, IfSome};
     ghost use Rattle.crush_pool.specs.Contents.{content_of};
-    ghost use Rattle.crush_choose.specs.declared.limits.TheConstants.{SIZE_LIMIT};
+    ghost use Rattle.crush_pool.specs.crush_choose.specs.declared.limits.TheConstants.{SIZE_LIMIT};
     ghost use Rattle.crush_map.specs.Map.{IsMap};
     ghost use Rattle.crush_pool.specs.Placers.{PoolOnMap};
     ghost use Rattle.crush_pool.specs.declared.limits.TheConstants.{GROUP_LIMIT};

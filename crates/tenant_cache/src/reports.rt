@@ -3,7 +3,7 @@
 ghost use Rattle.std.specs.Prelude.{◌≡◌, ◌≤◌, ◌*◌, Some, IfSome};
 ghost use Rattle.crush_pool.specs.Contents.{content_of};
 ghost use Rattle.crush_map.specs.Map.{IsMap};
-ghost use Rattle.crush_choose.specs.declared.limits.TheConstants.{SIZE_LIMIT};
+ghost use Rattle.crush_pool.specs.crush_choose.specs.declared.limits.TheConstants.{SIZE_LIMIT};
 ghost use Rattle.crush_pool.specs.declared.limits.TheConstants.{GROUP_LIMIT};
 ghost use Rattle.crush_report.specs.Moves.{gained_in};
 ghost use Rattle.crush_report.specs.Reports.{impact, moves};

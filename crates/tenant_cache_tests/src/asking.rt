@@ -2,8 +2,7 @@
 
 use std::num::NonZeroUsize;
 use std::process::Abort;
-use tenant_core::TenantStore;
-use tenant_messages::{CallParts, Reply};
+use tenant_core::{CallParts, Reply, TenantStore};
 use tenant_service::Service;
 
 /// The body of an import of a map that has only the device `$device`.

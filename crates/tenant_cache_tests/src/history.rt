@@ -9,8 +9,7 @@ use std::alloc::Global;
 use std::process::Abort;
 use std::rc::Rc;
 use tenant_cache::{Bytes, CachedStore};
-use tenant_core::{Cached, Query, TenantStore};
-use tenant_messages::CallParts;
+use tenant_core::{Cached, CallParts, Query, TenantStore};
 use tenant_service::{MemoryStore, Service};
 
 /// A store between two requests, for each of which a service takes it and gives it back.

@@ -6,7 +6,7 @@ use Rattle.std.specs.List.{AllZip, list_all}
 use Rattle.std.specs.Option.{option_map_or}
 use Rattle.std.specs.Prelude.{codes}
 use Rattle.serde_json.specs.Data.{Data}
-use Rattle.crush_choose.specs.declared.weights.TheConstants.{FULL}
+use Rattle.crush_pool.specs.crush_choose.specs.declared.weights.TheConstants.{FULL}
 use Rattle.crush_map.specs.declared.limits.TheConstants.{NUMBER_LIMIT}
 use Rattle.crush_pool.specs.declared.changes.DeviceChange.{DeviceChange}
 use Rattle.crush_pool.specs.declared.pool.PoolParts.{PoolParts}

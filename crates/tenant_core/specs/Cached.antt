@@ -1,6 +1,6 @@
 -- What a store may have in its cache for a query.
 use Rattle.std.specs.Prelude.{◌≡◌, ◌≤◌, ◌*◌, ℕ, Ok, Some}
-use Rattle.crush_choose.specs.declared.limits.TheConstants.{SIZE_LIMIT}
+use Rattle.crush_pool.specs.crush_choose.specs.declared.limits.TheConstants.{SIZE_LIMIT}
 use Rattle.crush_pool.specs.Pools.{group_of}
 use Rattle.crush_pool.specs.declared.limits.TheConstants.{GROUP_LIMIT}
 use Rattle.crush_report.specs.Moves.{gained_in}

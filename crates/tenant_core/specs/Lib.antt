@@ -12,3 +12,11 @@ pub mod Alone
 pub mod States
 pub mod StoreReply
 pub mod Private
+-- for the clauses of the crates above, which name these through this crate
+pub use Rattle.crush_map
+pub use Rattle.crush_text
+pub use Rattle.tenant_messages
+pub use Rattle.tenant_state
+pub use Rattle.tenant_reports
+pub use Rattle.tenant_resources
+pub use Rattle.matchit

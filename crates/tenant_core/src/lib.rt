@@ -23,5 +23,5 @@ pub use request::{Action, Request, read_request};
 pub use route::{Methods, Route};
 pub use router::{Routes, Target};
 pub use store::{TenantStore, store_fault};
-pub use tenant_messages::{Call, CallParts, Problem, Refusal, Reply, StoreFault, refused};
+pub use tenant_messages::{Bytes, Call, CallParts, Problem, Refusal, Reply, StoreFault, refused};
 pub use tenant_state::{Change, Inventory, Made, Receipt, TenantState};

@@ -5,8 +5,8 @@ use Rattle.sqlite_disk.specs.declared.Files.{Files}
 use Rattle.sqlite_pool.proofs.StateLemmas.{clean_is}
 use Rattle.sqlite_store.specs.declared.store.FileStore.{FileStore}
 use Rattle.sqlite_store.specs.FileStore as store
-use Rattle.sqlite_trees.proofs.Doubt.{no_doubt}
-use Rattle.sqlite_trees.specs.View.{IsClean}
+use Rattle.tenant_store.specs.table_schema.specs.sqlite_trees.proofs.Doubt.{no_doubt}
+use Rattle.tenant_store.specs.table_schema.specs.sqlite_trees.specs.View.{IsClean}
 use Rattle.sqlite_wal.specs.Reads.{AreClean}
 use Rattle.sqlite.specs.Files.{file_state, over_files, IsClosed}
 use Rattle.sqlite.specs.Held.{Held}

@@ -12,8 +12,8 @@ use Rattle.sqlite_wal.specs.Recovery.{Image}
 use Rattle.sqlite_store.specs.FileStore as store
 use Rattle.sqlite_store.specs.Laws.{settled_at}
 use Rattle.sqlite_store.specs.declared.store.FileStore.{FileStore}
-use Rattle.sqlite_trees.specs.Tree.{Trees}
-use Rattle.sqlite_trees.specs.View.{IsClean}
+use Rattle.tenant_store.specs.table_schema.specs.sqlite_trees.specs.Tree.{Trees}
+use Rattle.tenant_store.specs.table_schema.specs.sqlite_trees.specs.View.{IsClean}
 use Rattle.sqlite.specs.Closing.{files_left}
 use Rattle.sqlite.specs.Effect.{Database}
 use Rattle.sqlite.specs.Files.{file_state, image_of, over_files, IsCleanLeft, IsOpened, LeavesFiles}
@@ -23,7 +23,7 @@ use Rattle.sqlite.specs.State.{HasCleanDisk}
 use Rattle.sqlite.specs.declared.file.Leftover.{Leftover}
 use Rattle.sqlite.specs.declared.file.Leftover.TheVariants as left
 use Rattle.tenant_core.specs.States.{Same}
-use Rattle.tenant_tables.specs.Rows.{StandsFor, StatesIn}
+use Rattle.tenant_store.specs.tenant_tables.specs.Rows.{StandsFor, StatesIn}
 use Rattle.tenant_store.specs.Laws.{left_alone}
 use Rattle.tenant_store.specs.Replaced.{Replaces}
 use Rattle.tenant_store.specs.Shown.{IsHonest}

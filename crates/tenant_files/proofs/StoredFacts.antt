@@ -3,11 +3,11 @@
 use Rattle.std.proofs.Common.{◌≡◌, ℕ, List, Bool, false}
 use Rattle.sqlite.specs.Effect.{Database}
 use Rattle.tenant_core.specs.States.{States, Same, IsDamaged, MeetsDefinition}
-use Rattle.tenant_messages.specs.declared.call.Call.{Call}
-use Rattle.tenant_messages.specs.declared.reply.Reply.{Reply}
-use Rattle.tenant_tables.proofs.Migrated.{found_states}
-use Rattle.tenant_tables.specs.Rows.{StandsFor, StatesIn}
-use Rattle.table_schema.specs.Layout.{IsStoreSchema}
+use Rattle.tenant_core.specs.tenant_messages.specs.declared.call.Call.{Call}
+use Rattle.tenant_core.specs.tenant_messages.specs.declared.reply.Reply.{Reply}
+use Rattle.tenant_store.specs.tenant_tables.proofs.Migrated.{found_states}
+use Rattle.tenant_store.specs.tenant_tables.specs.Rows.{StandsFor, StatesIn}
+use Rattle.tenant_store.specs.table_schema.specs.Layout.{IsStoreSchema}
 
 -- ---- states that are the same
 

@@ -7,15 +7,15 @@ use Rattle.sqlite_wal.specs.Reads.{AreClean}
 use Rattle.sqlite_wal.specs.Recovery.{Image}
 use Rattle.sqlite_store.specs.Laws.{settled_at}
 use Rattle.sqlite_store.specs.declared.store.FileStore.{FileStore}
-use Rattle.sqlite_trees.specs.Tree.{Trees}
+use Rattle.tenant_store.specs.table_schema.specs.sqlite_trees.specs.Tree.{Trees}
 use Rattle.sqlite.specs.Effect.{Database}
 use Rattle.sqlite.specs.Files.{file_state, over_files}
 use Rattle.sqlite.specs.Held.{Held}
 use Rattle.sqlite.specs.State.{HasCleanDisk}
-use Rattle.table_schema.specs.Layout.{IsStoreSchema}
-use Rattle.table_schema.specs.Ready.{IsReady}
+use Rattle.tenant_store.specs.table_schema.specs.Layout.{IsStoreSchema}
+use Rattle.tenant_store.specs.table_schema.specs.Ready.{IsReady}
 use Rattle.tenant_core.specs.States.{Damaged, Found, HasState, Outcomes, Same, Shows, States}
-use Rattle.tenant_tables.specs.Rows.{StandsFor, StatesIn}
+use Rattle.tenant_store.specs.tenant_tables.specs.Rows.{StandsFor, StatesIn}
 use Rattle.tenant_store.specs.Laws.{left_alone}
 use Rattle.tenant_store.specs.Shown.{IsHonest}
 use Rattle.tenant_files.proofs.ClosedFacts.{given_clean}

@@ -4,7 +4,7 @@ use Rattle.sqlite_disk.specs.declared.Disk as disk
 use Rattle.sqlite_disk.specs.declared.Files.{Files}
 use Rattle.sqlite_store.specs.declared.store.FileStore.{FileStore}
 use Rattle.sqlite_store.specs.FileStore as store
-use Rattle.sqlite_trees.specs.View.{IsClean}
+use Rattle.tenant_store.specs.table_schema.specs.sqlite_trees.specs.View.{IsClean}
 use Rattle.sqlite.specs.Files.{FailsToClose}
 use Rattle.sqlite.specs.Held.{Held}
 use Rattle.sqlite.specs.declared.error.Error.{Error}

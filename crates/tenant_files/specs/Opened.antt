@@ -6,7 +6,7 @@ use Rattle.sqlite.specs.Files.{file_state, IsOpened}
 use Rattle.sqlite.specs.Held.{Held}
 use Rattle.sqlite.specs.Start.{FindsIn}
 use Rattle.tenant_core.specs.States.{States, Same}
-use Rattle.tenant_tables.specs.Rows.{StatesIn}
+use Rattle.tenant_store.specs.tenant_tables.specs.Rows.{StatesIn}
 
 -- `was` is the database as an opening found it in the two files, if the disk returned what was
 -- written (`Clean`)

@@ -7,14 +7,14 @@ use Rattle.sqlite_wal.specs.Reads.{AreClean}
 use Rattle.sqlite_wal.specs.Recovery.{Image}
 use Rattle.sqlite_store.specs.declared.store.FileStore.{FileStore}
 use Rattle.sqlite_store.specs.FileStore as store
-use Rattle.sqlite_trees.specs.Tree.{Trees}
+use Rattle.tenant_store.specs.table_schema.specs.sqlite_trees.specs.Tree.{Trees}
 use Rattle.sqlite.specs.Closing.{files_left}
 use Rattle.sqlite.specs.Files.{file_state, image_of, LeavesFiles}
 use Rattle.sqlite.specs.Held.{Held}
 use Rattle.sqlite.specs.declared.file.Leftover.{Leftover}
 use Rattle.tenant_core.specs.States.{Same}
 use Rattle.tenant_files.specs.Opened.{Finds}
-use Rattle.tenant_tables.specs.Rows.{StandsFor, StatesIn}
+use Rattle.tenant_store.specs.tenant_tables.specs.Rows.{StandsFor, StatesIn}
 
 -- The database refused the files: `first` are the files as they were opened, which held what they
 -- hold after a crash too, and `rest` is what the opening left of them. The toolchain says of it

@@ -8,14 +8,14 @@ use Rattle.sqlite_store.specs.declared.store.FileStore.{FileStore}
 use Rattle.sqlite.specs.Files.{file_state, over_files}
 use Rattle.sqlite.specs.Held.{Held}
 use Rattle.sqlite.specs.State.{HasCleanDisk}
-use Rattle.table_schema.specs.Layout.{IsStoreSchema}
+use Rattle.tenant_store.specs.table_schema.specs.Layout.{IsStoreSchema}
 use Rattle.tenant_core.specs.States.{LeavesAsItWas, Outcomes, Same, States}
 use Rattle.tenant_files.specs.Closed.{GivesBack}
 use Rattle.tenant_files.specs.Closing.{FailsToCopy}
 use Rattle.tenant_files.specs.Opened.{Finds}
 use Rattle.tenant_files.specs.Stored.{MayStandFor}
 use Rattle.tenant_files.specs.declared.fault.FileFault.{FileFault}
-use Rattle.tenant_tables.specs.Rows.{StandsFor, StatesIn}
+use Rattle.tenant_store.specs.tenant_tables.specs.Rows.{StandsFor, StatesIn}
 
 -- the tenants are as before, also after a crash
 pub record AreAsBefore (old new : States) (may_leave : Outcomes) : Type 0 where

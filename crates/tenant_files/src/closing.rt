@@ -4,7 +4,7 @@ ghost use Rattle.std.specs.Prelude.{◌≡◌, Err, false, IfErr, IfSome};
 ghost use Rattle.sqlite.specs.Files.{file_state, over_files};
 ghost use Rattle.sqlite.specs.State.{HasCleanDisk};
 ghost use Rattle.sqlite_wal.specs.Recovery.{Image};
-ghost use Rattle.tenant_tables.specs.Rows.{StandsFor};
+ghost use Rattle.tenant_store.specs.tenant_tables.specs.Rows.{StandsFor};
 ghost use Rattle.tenant_store.specs.Shown.{IsHonest};
 ghost use Rattle.tenant_files.specs.Closed.{GivesBack};
 ghost use Rattle.tenant_files.specs.Closing.{FailsToCopy};

@@ -26,7 +26,7 @@ pub fn fault_of(error: Error) -> FileFault
 
 impl From<StoreFault> for FileFault {
     ghost use Rattle.std.specs.Prelude.{◌≡◌, ◌↔◌};
-    ghost use Rattle.tenant_messages.specs.declared.StoreFault.TheVariants as below;
+    ghost use Rattle.tenant_core.specs.tenant_messages.specs.declared.StoreFault.TheVariants as below;
     ghost use Rattle.tenant_files.specs.declared.fault.FileFault.TheVariants.{NoMemory};
 
     ghost from_gives = { λ fault given. given ≡ NoMemory ↔ fault ≡ below.NoMemory };

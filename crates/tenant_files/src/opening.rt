@@ -6,7 +6,7 @@ ghost use Rattle.sqlite.specs.Files.{file_state};
 ghost use Rattle.sqlite.specs.State.{HasCleanDisk};
 ghost use Rattle.sqlite.specs.declared.file.Leftover.{Leftover as Left};
 ghost use Rattle.sqlite_wal.specs.Files.{image_at};
-ghost use Rattle.tenant_tables.specs.Rows.{StandsFor};
+ghost use Rattle.tenant_store.specs.tenant_tables.specs.Rows.{StandsFor};
 ghost use Rattle.tenant_files.specs.Opened.{IsFound};
 ghost use Rattle.tenant_files.specs.Refused.{IsRefused};
 

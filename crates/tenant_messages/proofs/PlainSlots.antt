@@ -4,7 +4,7 @@ use Rattle.serde_json.specs.Data.{number}
 use Rattle.serde_json.specs.Find.{of_integer}
 use Rattle.serde_json.specs.View.{items_of}
 use Rattle.serde_json.specs.Written.{has_float, items_have_float}
-use Rattle.crush_types.specs.declared.ItemId.{ItemId}
+use Rattle.crush_map.specs.crush_types.specs.declared.ItemId.{ItemId}
 use Rattle.tenant_messages.specs.Reply.{natural}
 use Rattle.tenant_messages.specs.Slots.{slot_json}
 

@@ -8,13 +8,13 @@ use Rattle.std.proofs.lemmas.Int.{ints}
 use Rattle.serde_json.specs.Data.{Data}
 use Rattle.serde_json.specs.Find.{as_str}
 use Rattle.crush_bucket.specs.Bucket.{BucketView, WeightedItem, total_weight, HasEqualWeights}
-use Rattle.crush_types.specs.Kinds.{is_uniform, kind_name, kind_named}
-use Rattle.crush_types.proofs.Names.{kind_of_name, name_of_kind}
-use Rattle.crush_types.specs.Weights.{has_equal_weights}
+use Rattle.crush_map.specs.crush_types.specs.Kinds.{is_uniform, kind_name, kind_named}
+use Rattle.crush_map.specs.crush_types.proofs.Names.{kind_of_name, name_of_kind}
+use Rattle.crush_map.specs.crush_types.specs.Weights.{has_equal_weights}
 use Rattle.crush_map.specs.declared.limits.TheConstants.{ITEM_LIMIT, NUMBER_LIMIT, TOTAL_WEIGHT_LIMIT}
-use Rattle.crush_types.specs.declared.ItemId.{ItemId}
-use Rattle.crush_types.specs.declared.Kind.{Kind}
-use Rattle.crush_types.specs.declared.Kind.TheVariants.{Uniform, List as ListKind, Tree, Straw2}
+use Rattle.crush_map.specs.crush_types.specs.declared.ItemId.{ItemId}
+use Rattle.crush_map.specs.crush_types.specs.declared.Kind.{Kind}
+use Rattle.crush_map.specs.crush_types.specs.declared.Kind.TheVariants.{Uniform, List as ListKind, Tree, Straw2}
 use Rattle.tenant_messages.proofs.Finding.{Finds, finds_as, finds_both, finds_integer, finds_list, finds_natural, finds_object, finds_tested, finds_text, finds_three, finds_under, is_there, Decides-leb}
 use Rattle.tenant_reports.proofs.Deciding.{Decides-distinct, Decides-none, Differ}
 use Rattle.tenant_reports.specs.declared.limits.TheConstants.{ATTEMPT_LIMIT}

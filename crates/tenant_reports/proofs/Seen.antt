@@ -4,7 +4,7 @@ use Rattle.std.specs.List.{list_any}
 use Rattle.std.proofs.lemmas.List.{drop_more, get_or-replicate, length-replicate}
 use Rattle.std.proofs.Math.Seq.{drop-length}
 use Rattle.crush_bucket.specs.Bucket.{WeightedItem}
-use Rattle.crush_types.specs.declared.limits.TheConstants.{ID_COUNT}
+use Rattle.crush_map.specs.crush_types.specs.declared.limits.TheConstants.{ID_COUNT}
 use Rattle.tenant_reports.specs.Picks.{are_distinct, is_of_item}
 use Rattle.tenant_reports.specs.Private.Seen.{HasItems}
 

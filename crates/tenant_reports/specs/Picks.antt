@@ -6,12 +6,12 @@ use Rattle.serde_json.specs.Data.{Data, number, object}
 use Rattle.serde_json.specs.Find.{as_str, of_integer}
 use Rattle.crush_bucket.specs.Bucket.{BucketView, WeightedItem, total_weight, HasEqualWeights}
 use Rattle.crush_bucket.specs.Pick.{pick}
-use Rattle.crush_types.specs.Kinds.{is_uniform, kind_name, kind_named}
-use Rattle.crush_types.specs.Weights.{has_equal_weights}
-use Rattle.crush_types.specs.declared.ItemId.{ItemId}
+use Rattle.crush_map.specs.crush_types.specs.Kinds.{is_uniform, kind_name, kind_named}
+use Rattle.crush_map.specs.crush_types.specs.Weights.{has_equal_weights}
+use Rattle.crush_map.specs.crush_types.specs.declared.ItemId.{ItemId}
 use Rattle.crush_map.specs.declared.limits.TheConstants.{ITEM_LIMIT, NUMBER_LIMIT, TOTAL_WEIGHT_LIMIT}
-use Rattle.crush_types.specs.declared.Kind.{Kind}
-use Rattle.crush_types.specs.declared.Kind.TheVariants.{Straw2, Uniform}
+use Rattle.crush_map.specs.crush_types.specs.declared.Kind.{Kind}
+use Rattle.crush_map.specs.crush_types.specs.declared.Kind.TheVariants.{Straw2, Uniform}
 use Rattle.tenant_messages.specs.Forms.{IsNatural, IsInteger, IsText, IsListOf, HasExactly, IsUnder}
 use Rattle.tenant_messages.specs.Json.{value_of, natural_of, integer_of, both, all_three, list_of, has_keys, under}
 use Rattle.tenant_messages.specs.Reply.{Answer, success, members_of}

@@ -10,7 +10,7 @@ ghost use Rattle.tenant_messages.specs.Json as json;
 ghost use Rattle.tenant_reports.specs.Picks as spec;
 ghost use Rattle.tenant_reports.specs.Private.Seen.{HasItems};
 ghost use Rattle.tenant_messages.specs.Reading.{Reads};
-ghost use Rattle.crush_types.specs.declared.limits.TheConstants.{ID_COUNT};
+ghost use Rattle.crush_map.specs.crush_types.specs.declared.limits.TheConstants.{ID_COUNT};
 ghost use Rattle.tenant_messages.specs.Reply.{reply};
 
 use crate::limits::ATTEMPT_LIMIT;
@@ -39,7 +39,7 @@ pub struct AskedBucket {
 impl Model for AskedBucket {
     ghost use Rattle.std.specs.Prelude.{◌≡◌};
     ghost use Rattle.crush_bucket.specs.Bucket.{BucketView, CanBeAsked, HasEqualWeights};
-    ghost use Rattle.crush_types.specs.declared.Kind.TheVariants.{Uniform};
+    ghost use Rattle.crush_map.specs.crush_types.specs.declared.Kind.TheVariants.{Uniform};
 
     ghost Value = { BucketView };
 

@@ -11,8 +11,8 @@ use Rattle.crush_map.specs.declared.limits.TheConstants.{NUMBER_LIMIT}
 use Rattle.crush_pool.specs.States.{reweights}
 use Rattle.crush_pool.specs.declared.changes.DeviceChange.{DeviceChange}
 use Rattle.crush_pool.specs.declared.states.DeviceState.{DeviceState}
-use Rattle.crush_types.specs.DeviceValues.{first_given}
-use Rattle.crush_types.specs.declared.limits.TheConstants.{ID_COUNT}
+use Rattle.crush_map.specs.crush_types.specs.DeviceValues.{first_given}
+use Rattle.crush_map.specs.crush_types.specs.declared.limits.TheConstants.{ID_COUNT}
 use Rattle.tenant_messages.specs.Forms.{IsNatural, IsOptional}
 use Rattle.tenant_resources.specs.Devices.{IsChange, changed, is_in_range}
 use Rattle.tenant_state.proofs.Staying.{both_true}

@@ -1,7 +1,7 @@
 -- The import of a text.
 use Rattle.std.proofs.Common.{◌≡◌, ℕ, List, length, true, false, nat_le, Ok, Err, refl}
 use Rattle.serde_json.specs.Data.{Data}
-use Rattle.crush_grammar.specs.declared.code.TextFault.{TextFault}
+use Rattle.crush_text.specs.crush_grammar.specs.declared.code.TextFault.{TextFault}
 use Rattle.crush_map.specs.Map.{Map}
 use Rattle.crush_text.specs.Reading.{map_of_text}
 use Rattle.tenant_resources.specs.Maps.{imported, import_reply}

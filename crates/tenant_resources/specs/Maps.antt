@@ -3,9 +3,9 @@
 use Rattle.std.specs.Prelude.{ℕ, suc, List, [], ◌∷◌, length, nat_le, if◌then◌else◌, Option, Some, None, option_and_then, Result, Ok, Err, codes}
 use Rattle.serde_json.specs.Data.{Data, string, object}
 use Rattle.serde_json.specs.Find.{as_str}
-use Rattle.crush_grammar.specs.declared.code.TextFault.{TextFault}
+use Rattle.crush_text.specs.crush_grammar.specs.declared.code.TextFault.{TextFault}
 use Rattle.crush_map.specs.Map.{Map}
-use Rattle.crush_writing.specs.Canonical.{canonical}
+use Rattle.crush_text.specs.crush_writing.specs.Canonical.{canonical}
 use Rattle.crush_text.specs.Reading.{map_of_text}
 use Rattle.tenant_resources.specs.Orders.{Accepted}
 use Rattle.tenant_messages.specs.Forms.{IsText, HasExactly, IsUnder}

@@ -6,9 +6,9 @@ use Rattle.tenant_core.specs.Alone.{alone, answered}
 use Rattle.tenant_core.specs.Step.{step}
 use Rattle.tenant_service.proofs.Ordering.{calls_acknowledged, calls_doubtful, calls_of-append, calls_of_both, keeps_order}
 use Rattle.tenant_service.specs.History.{Explains, IsHistoryFor, IsKeptOf, IsReplyTo, IsSoundFor, Kept, MayLeave, Session, calls_of, in_doubt, joined, kept_acknowledged, kept_in_doubt}
-use Rattle.tenant_messages.specs.declared.call.Call.{Call}
-use Rattle.tenant_messages.specs.declared.reply.Reply.{Reply}
-use Rattle.tenant_state.specs.State.{TenantState}
+use Rattle.tenant_core.specs.tenant_messages.specs.declared.call.Call.{Call}
+use Rattle.tenant_core.specs.tenant_messages.specs.declared.reply.Reply.{Reply}
+use Rattle.tenant_core.specs.tenant_state.specs.State.{TenantState}
 
 -- ---- two lists of calls, one after the other
 

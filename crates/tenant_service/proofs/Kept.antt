@@ -3,10 +3,10 @@ use Rattle.std.proofs.Common.{◌≡◌, ◌∙◌, Bool, true, false, if◌then
 use Rattle.std.specs.declared.alloc.Global.{Global}
 use Rattle.std.specs.declared.rc.Rc.{Rc}
 use denote.Bor.{Bor}
-use Rattle.tenant_messages.specs.Refusals.{Gives}
-use Rattle.tenant_messages.specs.declared.reply.Problem.{Problem}
-use Rattle.tenant_messages.specs.declared.reply.Refusal.{Refusal}
-use Rattle.tenant_messages.specs.declared.reply.Refusal.TheVariants as refusal
+use Rattle.tenant_core.specs.tenant_messages.specs.Refusals.{Gives}
+use Rattle.tenant_core.specs.tenant_messages.specs.declared.reply.Problem.{Problem}
+use Rattle.tenant_core.specs.tenant_messages.specs.declared.reply.Refusal.{Refusal}
+use Rattle.tenant_core.specs.tenant_messages.specs.declared.reply.Refusal.TheVariants as refusal
 
 -- the value at a key is exchanged for another
 pub changed_at : {A : Type 0} (h : A → A) (b : Bool) (x y : A) (old : Option A) → (b ≡ true → old ≡ Some x) → y ≡ h x

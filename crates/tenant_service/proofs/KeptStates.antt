@@ -1,8 +1,8 @@
 -- Each value in a store in memory is a state, also after a value is put, or taken out.
 use Rattle.std.proofs.Common.{◌≡◌, ◌∙◌, ℕ, List, Bool, true, false, if◌then◌else◌, Option, Some, None, Result, Ok, Err, OnOk, OnErr, sym, subst}
 use Rattle.std.specs.Str.{bytes_eq}
-use Rattle.tenant_state.specs.State.{TenantState}
-use Rattle.tenant_state.specs.Valid.{IsState}
+use Rattle.tenant_core.specs.tenant_state.specs.State.{TenantState}
+use Rattle.tenant_core.specs.tenant_state.specs.Valid.{IsState}
 
 abbrev AreStates : (List ℕ → Option TenantState) → Type 0
 AreStates kept = (u : List ℕ) (s : TenantState) → kept u ≡ Some s → IsState s

@@ -5,9 +5,9 @@ use Rattle.tenant_core.specs.States.{Found, LeavesStep, Outcomes, Serves, Shows,
 use Rattle.tenant_core.specs.StoreReply.{IsUnavailable}
 use Rattle.tenant_service.proofs.Served.{session_latched, session_open}
 use Rattle.tenant_service.specs.Served.{IsSession}
-use Rattle.tenant_messages.specs.declared.call.Call.{Call}
-use Rattle.tenant_messages.specs.declared.reply.Reply.{Reply}
-use Rattle.tenant_state.specs.State.{TenantState}
+use Rattle.tenant_core.specs.tenant_messages.specs.declared.call.Call.{Call}
+use Rattle.tenant_core.specs.tenant_messages.specs.declared.reply.Reply.{Reply}
+use Rattle.tenant_core.specs.tenant_state.specs.State.{TenantState}
 
 -- a store that serves a call: it gives each name one state at most, and a crash leaves what it
 -- shows, while it isn't latched

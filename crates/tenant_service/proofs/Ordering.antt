@@ -5,8 +5,8 @@ use Rattle.std.specs.List.{All}
 use Rattle.tenant_core.specs.Alone.{answered, is_answered}
 use Rattle.tenant_core.specs.Step.{is_of}
 use Rattle.tenant_service.specs.History.{AreInOrder, IsKeptOf, IsSilentFrom, IsSoundFor, Kept, KeepsOrder, Session, acknowledged, at_doubt, calls_of, in_doubt, kept_acknowledged, kept_in_doubt}
-use Rattle.tenant_messages.specs.declared.call.Call.{Call}
-use Rattle.tenant_messages.specs.declared.reply.Reply.{Reply}
+use Rattle.tenant_core.specs.tenant_messages.specs.declared.call.Call.{Call}
+use Rattle.tenant_core.specs.tenant_messages.specs.declared.reply.Reply.{Reply}
 
 -- ---- the calls of a list of kept calls
 

@@ -6,10 +6,10 @@ use Rattle.tenant_core.specs.Request.{Request}
 use Rattle.tenant_core.specs.States.{Damaged, Found, HasState, IsDamaged, LeavesAsItWas, LeavesAsItWasOr, Outcomes, Same, Shows, States}
 use Rattle.tenant_core.specs.Step.{decision}
 use Rattle.tenant_core.specs.declared.decision.Decision.{Decision}
-use Rattle.tenant_messages.specs.declared.StoreFault.{StoreFault}
-use Rattle.tenant_messages.specs.Reply.{reply}
-use Rattle.tenant_messages.specs.declared.reply.Reply.{Reply}
-use Rattle.tenant_state.specs.State.{TenantState}
+use Rattle.tenant_core.specs.tenant_messages.specs.declared.StoreFault.{StoreFault}
+use Rattle.tenant_core.specs.tenant_messages.specs.Reply.{reply}
+use Rattle.tenant_core.specs.tenant_messages.specs.declared.reply.Reply.{Reply}
+use Rattle.tenant_core.specs.tenant_state.specs.State.{TenantState}
 
 -- a fact that holds without a premise holds of an error
 pub of_any : {A E : Type 0} (result : Result A E) (P : Type 0) → P → OnErr result P

@@ -1,8 +1,8 @@
 -- The path and the body of a command are those of its call.
 use Rattle.std.proofs.Common.{◌≡◌, ◌∙◌, ℕ, ◌==◌, List, length, Bool, true, false, nat_lt, if◌then◌else◌, Option, Some, None, option_map, option_and_then, Err, codes, refl, sym, ap}
 use Rattle.std.specs.Option.{ok_or}
-use Rattle.matchit.specs.Router.{RouteOf}
-use Rattle.matchit.specs.Seek.{first}
+use Rattle.tenant_core.specs.matchit.specs.Router.{RouteOf}
+use Rattle.tenant_core.specs.matchit.specs.Seek.{first}
 use Rattle.tenant_core.specs.Commands.{Command}
 use Rattle.tenant_core.specs.Request.{request_of, tenant_in, on_route, on_target}
 use Rattle.tenant_core.specs.Route.{read, route_of}
@@ -17,16 +17,16 @@ use Rattle.tenant_core.specs.declared.route.Methods.{Methods}
 use Rattle.tenant_core.specs.declared.route.Route.{Route}
 use Rattle.tenant_core.specs.declared.route.Route.TheVariants as route
 use Rattle.tenant_service.specs.Repeats.{command_in, command_asked, command_of}
-use Rattle.tenant_messages.specs.declared.call.Call.{Call}
-use Rattle.tenant_messages.specs.declared.reply.Problem.TheVariants.{BadRequest, TooLarge}
-use Rattle.tenant_reports.specs.DeviceCsv as device_csv
-use Rattle.tenant_resources.specs.Devices as devices
-use Rattle.tenant_resources.specs.Exceptions as exceptions
-use Rattle.tenant_resources.specs.Groups as groups
-use Rattle.tenant_resources.specs.Maps as maps
-use Rattle.tenant_reports.specs.Picks as picks
-use Rattle.tenant_resources.specs.Pools as pools
-use Rattle.tenant_resources.specs.RuleTests as rule_tests
+use Rattle.tenant_core.specs.tenant_messages.specs.declared.call.Call.{Call}
+use Rattle.tenant_core.specs.tenant_messages.specs.declared.reply.Problem.TheVariants.{BadRequest, TooLarge}
+use Rattle.tenant_core.specs.tenant_reports.specs.DeviceCsv as device_csv
+use Rattle.tenant_core.specs.tenant_resources.specs.Devices as devices
+use Rattle.tenant_core.specs.tenant_resources.specs.Exceptions as exceptions
+use Rattle.tenant_core.specs.tenant_resources.specs.Groups as groups
+use Rattle.tenant_core.specs.tenant_resources.specs.Maps as maps
+use Rattle.tenant_core.specs.tenant_reports.specs.Picks as picks
+use Rattle.tenant_core.specs.tenant_resources.specs.Pools as pools
+use Rattle.tenant_core.specs.tenant_resources.specs.RuleTests as rule_tests
 
 -- ---- an action that is read
 

@@ -11,17 +11,17 @@ use Rattle.tenant_core.specs.declared.request.Action.{Action}
 use Rattle.tenant_core.specs.declared.request.Action.TheVariants as action
 use Rattle.tenant_service.proofs.Reading.{call_from}
 use Rattle.tenant_service.specs.Repeats.{AreAlike, command_in, command_asked, command_of, number_of}
-use Rattle.tenant_messages.specs.Reply.{refused, repeated, reply}
-use Rattle.tenant_messages.specs.declared.call.Call.{Call}
-use Rattle.tenant_messages.specs.declared.reply.Problem.{Problem}
-use Rattle.tenant_messages.specs.declared.reply.Problem.TheVariants.{TenantLimit}
-use Rattle.tenant_messages.specs.declared.reply.Reply.{Reply}
-use Rattle.tenant_resources.specs.Orders.{Accepted}
-use Rattle.tenant_state.proofs.Counting.{same_bytes}
-use Rattle.tenant_state.specs.Receipts.{receipt_of}
-use Rattle.tenant_state.specs.State.{Change, TenantState, after, epoch, inventory_of}
-use Rattle.tenant_state.specs.declared.limits.TheConstants.{RECEIPT_LIMIT}
-use Rattle.tenant_state.specs.declared.receipts.Receipt.{Receipt}
+use Rattle.tenant_core.specs.tenant_messages.specs.Reply.{refused, repeated, reply}
+use Rattle.tenant_core.specs.tenant_messages.specs.declared.call.Call.{Call}
+use Rattle.tenant_core.specs.tenant_messages.specs.declared.reply.Problem.{Problem}
+use Rattle.tenant_core.specs.tenant_messages.specs.declared.reply.Problem.TheVariants.{TenantLimit}
+use Rattle.tenant_core.specs.tenant_messages.specs.declared.reply.Reply.{Reply}
+use Rattle.tenant_core.specs.tenant_resources.specs.Orders.{Accepted}
+use Rattle.tenant_core.specs.tenant_state.proofs.Counting.{same_bytes}
+use Rattle.tenant_core.specs.tenant_state.specs.Receipts.{receipt_of}
+use Rattle.tenant_core.specs.tenant_state.specs.State.{Change, TenantState, after, epoch, inventory_of}
+use Rattle.tenant_core.specs.tenant_state.specs.declared.limits.TheConstants.{RECEIPT_LIMIT}
+use Rattle.tenant_core.specs.tenant_state.specs.declared.receipts.Receipt.{Receipt}
 
 -- ---- a command leaves the state unchanged, or changes it
 

@@ -7,9 +7,9 @@ use Rattle.tenant_service.specs.History.{Kept, calls_of, IsReplyTo}
 use Rattle.tenant_service.specs.Repeats.{ActsOnce, Exists, IsAccepted, number_of, state_before}
 use Rattle.tenant_service.proofs.Receipted.{HasReceipt, accepted, changes_nothing, same_again, stays}
 use Rattle.tenant_core.specs.Step.{step}
-use Rattle.tenant_messages.specs.declared.call.Call.{Call}
-use Rattle.tenant_messages.specs.declared.reply.Reply.{Reply}
-use Rattle.tenant_state.specs.State.{TenantState}
+use Rattle.tenant_core.specs.tenant_messages.specs.declared.call.Call.{Call}
+use Rattle.tenant_core.specs.tenant_messages.specs.declared.reply.Reply.{Reply}
+use Rattle.tenant_core.specs.tenant_state.specs.State.{TenantState}
 
 -- ---- places of a list
 

@@ -12,9 +12,9 @@ use Rattle.tenant_service.proofs.Explaining.{alone-replies, alone-state}
 use Rattle.tenant_service.specs.History.{IsHistoryFor, IsSilentFrom, IsSoundFor, MayLeave, at_doubt, in_doubt}
 use Rattle.tenant_service.specs.Private.{LeavesSoFar, doubt_after}
 use Rattle.tenant_service.specs.Served.{IsSession, IsSound, LeavesSession, session}
-use Rattle.tenant_messages.specs.declared.call.Call.{Call}
-use Rattle.tenant_messages.specs.declared.reply.Reply.{Reply}
-use Rattle.tenant_state.specs.State.{TenantState}
+use Rattle.tenant_core.specs.tenant_messages.specs.declared.call.Call.{Call}
+use Rattle.tenant_core.specs.tenant_messages.specs.declared.reply.Reply.{Reply}
+use Rattle.tenant_core.specs.tenant_state.specs.State.{TenantState}
 
 -- ---- lists
 

@@ -4,9 +4,9 @@ use Rattle.std.specs.Prelude.{ℕ, ◌≡◌, ◌⊎◌, ◌<◌, List, [], ◌�
 use Rattle.std.specs.List.{All, AllZip}
 use Rattle.tenant_core.specs.Alone.{alone, is_answered, answered, calls_answered, replies_answered}
 use Rattle.tenant_core.specs.Step.{is_of}
-use Rattle.tenant_messages.specs.declared.call.Call.{Call}
-use Rattle.tenant_messages.specs.declared.reply.Reply.{Reply}
-use Rattle.tenant_state.specs.State.{TenantState}
+use Rattle.tenant_core.specs.tenant_messages.specs.declared.call.Call.{Call}
+use Rattle.tenant_core.specs.tenant_messages.specs.declared.reply.Reply.{Reply}
+use Rattle.tenant_core.specs.tenant_state.specs.State.{TenantState}
 
 -- ---- one session
 

@@ -3,8 +3,8 @@
 use Rattle.std.specs.Prelude.{ℕ, ◌≡◌, List, Bool, true, false, Option, Some, None}
 use Rattle.tenant_core.specs.States.{States, Outcomes}
 use Rattle.tenant_service.specs.Served.{LeavesSession}
-use Rattle.tenant_messages.specs.declared.call.Call.{Call}
-use Rattle.tenant_messages.specs.declared.reply.Reply.{Reply}
+use Rattle.tenant_core.specs.tenant_messages.specs.declared.call.Call.{Call}
+use Rattle.tenant_core.specs.tenant_messages.specs.declared.reply.Reply.{Reply}
 
 -- the doubt after the call at `place`, which did or didn't latch the store
 abbrev pub doubt_after : Option ℕ → Bool → ℕ → Option ℕ

@@ -7,10 +7,10 @@ use Rattle.tenant_core.specs.Step.{step}
 use Rattle.tenant_core.specs.declared.request.Action.{Action}
 use Rattle.tenant_core.specs.declared.request.Action.TheVariants as action
 use Rattle.tenant_service.specs.History.{Kept, calls_of}
-use Rattle.tenant_messages.specs.declared.call.Call.{Call}
-use Rattle.tenant_messages.specs.declared.reply.Problem.{Problem}
-use Rattle.tenant_messages.specs.declared.reply.Reply.{Reply}
-use Rattle.tenant_state.specs.State.{TenantState}
+use Rattle.tenant_core.specs.tenant_messages.specs.declared.call.Call.{Call}
+use Rattle.tenant_core.specs.tenant_messages.specs.declared.reply.Problem.{Problem}
+use Rattle.tenant_core.specs.tenant_messages.specs.declared.reply.Reply.{Reply}
+use Rattle.tenant_core.specs.tenant_state.specs.State.{TenantState}
 
 -- ---- request numbers
 

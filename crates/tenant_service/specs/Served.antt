@@ -2,9 +2,9 @@
 use Rattle.std.specs.Prelude.{ℕ, ◌≡◌, List, Bool, false, Option}
 use Rattle.tenant_core.specs.States.{States, Outcomes, Found, HasState, MeetsDefinition}
 use Rattle.tenant_service.specs.History.{Session, IsSoundFor, MayLeave}
-use Rattle.tenant_messages.specs.declared.call.Call.{Call}
-use Rattle.tenant_messages.specs.declared.reply.Reply.{Reply}
-use Rattle.tenant_state.specs.State.{TenantState}
+use Rattle.tenant_core.specs.tenant_messages.specs.declared.call.Call.{Call}
+use Rattle.tenant_core.specs.tenant_messages.specs.declared.reply.Reply.{Reply}
+use Rattle.tenant_core.specs.tenant_state.specs.State.{TenantState}
 
 abbrev pub session : (List ℕ → Option TenantState) → List Call → List Reply → Option ℕ → Session
 session found calls replies doubt = record { found = found; calls = calls; replies = replies; doubt = doubt }

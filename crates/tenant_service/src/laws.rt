@@ -2,7 +2,7 @@
 //! about every such store.
 
 ghost use Rattle.std.specs.Prelude.{◌≡◌, ℕ, List, false, Option, Ok, Some, None};
-ghost use Rattle.tenant_state.specs.State.{TenantState};
+ghost use Rattle.tenant_core.specs.tenant_state.specs.State.{TenantState};
 ghost use Rattle.tenant_service.specs.declared.memory_store.MemoryStore.{MemoryStore};
 ghost use Rattle.tenant_core.specs.Commands.{Command};
 ghost use Rattle.tenant_core.specs.Request.{request_of};
@@ -10,9 +10,9 @@ ghost use Rattle.tenant_core.specs.Step.{step};
 ghost use Rattle.tenant_core.specs.declared.request.Action.{Action};
 ghost use Rattle.tenant_service.specs.History.{Explains, IsHistoryFor, Kept, Session, joined};
 ghost use Rattle.tenant_service.specs.Repeats.{ActsOnce, command_of, number_of};
-ghost use Rattle.tenant_messages.specs.declared.call.Call.{Call};
-ghost use Rattle.tenant_state.specs.Receipts.{receipt_of};
-ghost use Rattle.tenant_state.specs.declared.receipts.Receipt.{Receipt};
+ghost use Rattle.tenant_core.specs.tenant_messages.specs.declared.call.Call.{Call};
+ghost use Rattle.tenant_core.specs.tenant_state.specs.Receipts.{receipt_of};
+ghost use Rattle.tenant_core.specs.tenant_state.specs.declared.receipts.Receipt.{Receipt};
 
 use crate::memory_store::MemoryStore;
 use tenant_core::TenantStore;

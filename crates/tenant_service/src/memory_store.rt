@@ -3,15 +3,14 @@
 ghost use Rattle.std.specs.Prelude.{◌≡◌, ℕ, List, Some, None, OnOk, OnErr, if◌then◌else◌, option_map};
 ghost use Rattle.std.specs.Str.{bytes_eq};
 ghost use Rattle.std.specs.BTreeMap.{get_by_text};
-ghost use Rattle.tenant_state.specs.State.{CanMake, TenantState, after};
-ghost use Rattle.tenant_state.specs.Valid.{IsState};
+ghost use Rattle.tenant_core.specs.tenant_state.specs.State.{CanMake, TenantState, after};
+ghost use Rattle.tenant_core.specs.tenant_state.specs.Valid.{IsState};
 
 use crate::service::Service;
 use std::alloc::{AllocError, Global};
 use std::collections::BTreeMap;
 use std::rc::Rc;
-use tenant_core::{StoreFault, TenantStore};
-use tenant_state::{Change, Inventory, Receipt, TenantState};
+use tenant_core::{Change, Inventory, Receipt, StoreFault, TenantState, TenantStore};
 
 type States = BTreeMap<String, TenantState>;
 

@@ -1,24 +1,22 @@
 //! The service of all tenants, over any store.
 
 ghost use Rattle.std.specs.Prelude.{◌≡◌, ◌≢◌, ◌↔◌, ℕ, List, true, false, Option, is_some, option_map, Err, IfOk, IfSome, OnOk, OnErr};
-ghost use Rattle.tenant_messages.specs.CallParts.{call_of};
+ghost use Rattle.tenant_core.specs.tenant_messages.specs.CallParts.{call_of};
 ghost use Rattle.tenant_core.specs.Private.Performing.{Decides, LeavesRequest, Performs};
 ghost use Rattle.tenant_core.specs.States.{IsDamaged, LeavesAsItWas, LeavesAsItWasOr, LeavesStep, Follows};
 ghost use Rattle.tenant_core.specs.Step.{is_of, receipt_in};
 ghost use Rattle.tenant_core.specs.Effects.{Fits, after_effect};
 ghost use Rattle.tenant_core.specs.StoreReply.{is_failed, store_damaged};
-ghost use Rattle.tenant_state.specs.State.{TenantState};
+ghost use Rattle.tenant_core.specs.tenant_state.specs.State.{TenantState};
 
 use std::alloc::{AllocError, Global};
 use std::marker::Model;
 use std::rc::Rc;
 use tenant_core::laws::each_decision_fits_its_state;
 use tenant_core::{
-    Action, Decision, Effect, Query, Request, Routes, StoreFault, TenantStore, answer_cached,
-    decide, read_request, store_fault,
+    Action, Call, CallParts, Decision, Effect, Query, Receipt, Refusal, Reply, Request, Routes,
+    StoreFault, TenantStore, answer_cached, decide, read_request, refused, store_fault,
 };
-use tenant_messages::{Call, CallParts, Refusal, Reply, refused};
-use tenant_state::Receipt;
 
 /// Carries out the effect of a request on its tenant. `Err`: the store's fault, with nothing
 /// changed, unless it latched the store.
@@ -230,7 +228,7 @@ impl<T: TenantStore + Drop> Service<T> {
 impl<T: TenantStore> Service<T> {
     ghost use Rattle.std.specs.Prelude.{◌≡◌, ◌≤◌, ℕ, List, [], true, false, IfOk, OnErr, length, vec_capacity};
     ghost use Rattle.std.specs.List.{All};
-    ghost use Rattle.tenant_messages.specs.CallParts.{call_of};
+    ghost use Rattle.tenant_core.specs.tenant_messages.specs.CallParts.{call_of};
     ghost use Rattle.tenant_core.specs.States.{IsDamaged, LeavesStep, Serves, MeetsDefinition, Headline, Leaves, ServesCallsOfNobody, ServesCallsOfDamaged, StaysDamaged, NamesCause};
     ghost use Rattle.tenant_core.specs.Step.{is_of};
     ghost use Rattle.tenant_core.specs.StoreReply.{IsUnavailable};

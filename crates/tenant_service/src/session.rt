@@ -5,8 +5,7 @@ ghost use Rattle.tenant_service.specs.Private as spec;
 
 use crate::service::Service;
 use std::alloc::AllocError;
-use tenant_core::TenantStore;
-use tenant_messages::{Call, Reply};
+use tenant_core::{Call, Reply, TenantStore};
 
 /// The end of a session: a reply to each call, in order, and the doubt, the place of the call at
 /// which the store failed for good, if it did. After a crash that call may be found done or not.

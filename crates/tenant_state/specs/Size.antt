@@ -7,7 +7,7 @@ use Rattle.crush_map.specs.declared.draft.Bucket.{Bucket}
 use Rattle.crush_map.specs.declared.draft.Rule.{Rule}
 use Rattle.crush_pool.specs.declared.exceptions.Pair.{Pair}
 use Rattle.crush_pool.specs.declared.states.DeviceState.{DeviceState}
-use Rattle.crush_writing.specs.Canonical.{canonical}
+use Rattle.crush_text.specs.crush_writing.specs.Canonical.{canonical}
 use Rattle.tenant_state.specs.State.{Inventory, TenantPool}
 use Rattle.tenant_state.specs.declared.size.TheConstants.{INVENTORY_BYTES, VERSION_BYTES, TEXT_BYTES, PART_BYTES, BUCKET_BYTES, ITEM_BYTES, STEP_BYTES, BUCKET_ID_BYTES, STATE_BYTES, DEVICE_ID_BYTES, POOL_BYTES, PAIR_BYTES, GROUP_BYTES}
 

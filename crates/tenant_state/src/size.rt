@@ -8,7 +8,7 @@
 ghost use Rattle.std.specs.Prelude.{◌≡◌, ◌+◌, ◌-◌, ◌*◌, ◌^◌, length, map, min};
 ghost use Rattle.std.specs.List.{sum_by};
 ghost use Rattle.crush_pool.specs.declared.pool.PoolParts.{PoolParts};
-ghost use Rattle.crush_writing.specs.Canonical.{canonical};
+ghost use Rattle.crush_text.specs.crush_writing.specs.Canonical.{canonical};
 ghost use Rattle.tenant_state.specs.Size.{bucket_reach, device_reach, group_reach, items_in, map_size, pool_size, states_size, steps_in, version_size};
 
 use crate::pool::TenantPool;

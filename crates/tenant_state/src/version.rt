@@ -1,7 +1,7 @@
 //! Versions of a tenant's map, each ready for use.
 
 ghost use Rattle.std.specs.Prelude.{◌≡◌, IfOk};
-ghost use Rattle.crush_writing.specs.Canonical.{canonical};
+ghost use Rattle.crush_text.specs.crush_writing.specs.Canonical.{canonical};
 
 use crate::size::size_of_version;
 use crush_bucket::Tables;
@@ -26,7 +26,7 @@ impl Model for Version {
     ghost use Rattle.std.specs.Prelude.{◌≡◌, ◌-◌, ◌^◌, min};
     ghost use Rattle.crush_bucket.specs.Tables.{tables_of};
     ghost use Rattle.crush_map.specs.Map.{Map};
-    ghost use Rattle.crush_writing.specs.Canonical.{canonical};
+    ghost use Rattle.crush_text.specs.crush_writing.specs.Canonical.{canonical};
     ghost use Rattle.tenant_state.specs.Size.{version_size};
 
     ghost Value = { Map };
@@ -44,7 +44,7 @@ impl Version {
     ghost use Rattle.std.specs.Prelude.{◌≡◌, ◌-◌, ◌^◌, ◌↔◌, IfOk, Some, min};
     ghost use Rattle.crush_bucket.specs.Tables.{tables_of};
     ghost use Rattle.crush_map.specs.Map.{IsMap, Map};
-    ghost use Rattle.crush_writing.specs.Canonical.{canonical};
+    ghost use Rattle.crush_text.specs.crush_writing.specs.Canonical.{canonical};
     ghost use Rattle.tenant_state.specs.Size.{version_size};
 
     /// Makes the version with this map. `Err(AllocError)`: an allocation failed; the map is

@@ -3,12 +3,12 @@ use Rattle.std.proofs.Common.{◌≡◌, inl, inr, ℕ, List, length, Option, So
 use Rattle.sqlite.proofs.StateLemmas.{survives_then, survives_weaker}
 use Rattle.sqlite.specs.Effect.{Database}
 use Rattle.sqlite.specs.State.{State as Shown, HasCleanDisk, Survives}
-use Rattle.sqlite_trees.specs.Tree.{Trees}
+use Rattle.table_schema.specs.sqlite_trees.specs.Tree.{Trees}
 use Rattle.tenant_tables.proofs.Turns.{dropped}
 use Rattle.tenant_tables.proofs.Whole.{has_rows, is_tenant}
 use Rattle.tenant_tables.specs.Changes.{IsChangeable, Turns}
 use Rattle.tenant_tables.specs.Rows.{StandsFor}
-use Rattle.tenant_state.specs.State.{CanMake, Change, TenantState, after, epoch}
+use Rattle.tenant_core.specs.tenant_state.specs.State.{CanMake, Change, TenantState, after, epoch}
 use Rattle.tenant_tables.specs.Change.{Drops, IsNumber}
 use Rattle.table_schema.specs.Found.{Names}
 use Rattle.table_schema.specs.Holds.{IsTenant}

@@ -1,16 +1,16 @@
 -- What is judged of tenants, and what their rows stand for then.
 use Rattle.std.proofs.Common.{◌≡◌, ◌≢◌, inl, inr, ℕ, suc, ◌+◌, List, [], ◌∷◌, length, Option, Some, None, refl, sym, ap, subst, ◌∙◌, IsPermutation}
 use Rattle.std.proofs.lemmas.List.Sorted.{length_permutation}
-use Rattle.crush_map.specs.Map.{Map}
-use Rattle.sqlite_trees.specs.Tree.{Trees}
-use Rattle.sqlite_value.specs.Order.{Row}
+use Rattle.tenant_core.specs.crush_map.specs.Map.{Map}
+use Rattle.table_schema.specs.sqlite_trees.specs.Tree.{Trees}
+use Rattle.table_schema.specs.sqlite_value.specs.Order.{Row}
 use Rattle.tenant_core.specs.States.{HasInventory, IsDamaged}
 use Rattle.tenant_tables.proofs.Whole.{has_receipts, has_rows, is_found, is_of_state, nat_is, stands_for_found}
 use Rattle.tenant_tables.specs.Changes.{HasReceipts, HasRows}
 use Rattle.tenant_tables.specs.Lists.{IsOfState}
 use Rattle.tenant_tables.specs.Rows.{StandsFor, rows_of_versions}
-use Rattle.tenant_state.specs.Receipts.{Receipts}
-use Rattle.tenant_state.specs.State.{Inventory, TenantState, inventory_of, with_receipts}
+use Rattle.tenant_core.specs.tenant_state.specs.Receipts.{Receipts}
+use Rattle.tenant_core.specs.tenant_state.specs.State.{Inventory, TenantState, inventory_of, with_receipts}
 use Rattle.table_schema.specs.Found.{Names}
 use Rattle.table_schema.specs.Holds.{of_tenant}
 use Rattle.table_schema.specs.Layout.{maps_table}

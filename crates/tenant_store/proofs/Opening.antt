@@ -1,7 +1,7 @@
 -- What an opening finds, makes or replaces stands for the states that the database had.
 use Rattle.std.proofs.Common.{◌≡◌, ◌⊎◌, inl, inr, refl, sym, subst}
 use Rattle.sqlite.specs.Effect.{Database}
-use Rattle.sqlite_trees.specs.Tree.{Trees}
+use Rattle.table_schema.specs.sqlite_trees.specs.Tree.{Trees}
 use Rattle.table_schema.specs.Layout.{no_schema, first_schema, IsStoreSchema}
 use Rattle.tenant_core.specs.States.{Same}
 use Rattle.tenant_tables.proofs.Migrated.{found_states, set_up_states}

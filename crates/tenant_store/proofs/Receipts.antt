@@ -7,20 +7,20 @@ use Rattle.std.proofs.lemmas.List.Sorted.{IsPermutation-sym, length_permutation}
 use Rattle.std.proofs.lemmas.Slice.Eq.{bytes_eq-Decides}
 use Rattle.std.proofs.lemmas.Str.{IsUtf8-from_is_utf8}
 use Rattle.sqlite.proofs.Callers.{one_permutation}
-use Rattle.sqlite_schema.specs.Rules.{equal}
-use Rattle.sqlite_trees.proofs.ListLemmas.{IsPermutation-filter}
-use Rattle.sqlite_value.proofs.OrderLemmas.{value_cmp_total}
-use Rattle.sqlite_value.specs.Order.{Row, column, value_cmp}
-use Rattle.sqlite_value.specs.declared.keys.Collation.TheVariants.{Binary}
-use Rattle.sqlite_value.specs.declared.value.Value.TheVariants.{Text as Words}
-use Rattle.tenant_messages.specs.Reply.{success_status}
+use Rattle.table_schema.specs.sqlite_schema.specs.Rules.{equal}
+use Rattle.table_schema.specs.sqlite_trees.proofs.ListLemmas.{IsPermutation-filter}
+use Rattle.table_schema.specs.sqlite_value.proofs.OrderLemmas.{value_cmp_total}
+use Rattle.table_schema.specs.sqlite_value.specs.Order.{Row, column, value_cmp}
+use Rattle.table_schema.specs.sqlite_value.specs.declared.keys.Collation.TheVariants.{Binary}
+use Rattle.table_schema.specs.sqlite_value.specs.declared.value.Value.TheVariants.{Text as Words}
+use Rattle.tenant_core.specs.tenant_messages.specs.Reply.{success_status}
 use Rattle.tenant_tables.proofs.Orders.{receipts_rise}
 use Rattle.tenant_tables.proofs.Reading.{same_receipt}
 use Rattle.tenant_tables.specs.Rows.{row_of_receipt}
-use Rattle.tenant_state.specs.Ordered.{is_ascending}
-use Rattle.tenant_state.specs.Receipts.{Receipts, is_before, receipt_of}
-use Rattle.tenant_state.specs.Valid.{is_receipt}
-use Rattle.tenant_state.specs.declared.receipts.Receipt.{Receipt}
+use Rattle.tenant_core.specs.tenant_state.specs.Ordered.{is_ascending}
+use Rattle.tenant_core.specs.tenant_state.specs.Receipts.{Receipts, is_before, receipt_of}
+use Rattle.tenant_core.specs.tenant_state.specs.Valid.{is_receipt}
+use Rattle.tenant_core.specs.tenant_state.specs.declared.receipts.Receipt.{Receipt}
 use Rattle.tenant_tables.proofs.RowFacts.{apart, equal_parts, equal_words, itself}
 use Rattle.table_schema.specs.Found.{AreReceipt, IsReceiptRow, IsRising, receipt_values}
 use Rattle.table_schema.specs.Holds.{rows_with}

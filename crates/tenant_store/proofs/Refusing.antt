@@ -3,8 +3,8 @@ use Rattle.std.proofs.Common.{◌≡◌, ◌↔◌, ℤ, Bool, true, false, Resu
 use Rattle.std.proofs.lemmas.Int.{to_z-of_z}
 use mir.Syntax.{w64}
 use mir.Val.{SFits}
-use Rattle.tenant_messages.specs.declared.StoreFault.{StoreFault}
-use Rattle.tenant_messages.specs.declared.StoreFault.TheVariants.{Damaged, Failed}
+use Rattle.tenant_core.specs.tenant_messages.specs.declared.StoreFault.{StoreFault}
+use Rattle.tenant_core.specs.tenant_messages.specs.declared.StoreFault.TheVariants.{Damaged, Failed}
 
 -- a fault that is passed on is that of the call below
 pub same_fault : {A B : Type 0} (r : Result A StoreFault) (x f g : StoreFault) → r ≡ Err x → x ≡ f → r ≡ Err g → ◌≡◌ {A = Result B StoreFault} (Err f) (Err g)

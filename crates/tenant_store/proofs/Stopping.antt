@@ -5,11 +5,11 @@ use Rattle.std.proofs.lemmas.Slice.Eq.{bytes_eq-Decides}
 use Rattle.sqlite.specs.Held.{Held, state}
 use Rattle.sqlite.specs.State.{HasCleanDisk, Survives}
 use Rattle.sqlite.specs.Store.{Ghosts}
-use Rattle.sqlite_trees.specs.Tree.{Trees}
+use Rattle.table_schema.specs.sqlite_trees.specs.Tree.{Trees}
 use Rattle.tenant_core.specs.States.{Found, Damaged, HasState as Has, LeavesAsItWas, LeavesAsItWasOr, Shows}
 use Rattle.tenant_tables.specs.Changes.{Turns}
 use Rattle.tenant_tables.specs.Rows.{StandsFor}
-use Rattle.tenant_state.specs.State.{TenantState}
+use Rattle.tenant_core.specs.tenant_state.specs.State.{TenantState}
 use Rattle.table_schema.specs.Ready.{IsReady}
 use Rattle.tenant_store.specs.Laws.{LeavesCommitted, left_alone}
 use Rattle.tenant_store.specs.Shown.{HasState, MayLeave, OneState}

@@ -1,10 +1,10 @@
 -- What an opening may find where a change was made, and the files aren't where they were.
 use Rattle.std.proofs.Common.{◌≡◌, ◌≢◌, ◌⊎◌, inl, inr, ◌↔◌, ◌∙◌, ℕ, List, Bool, true, false, Option, Result, Ok, Err, OnOk, is_ok, refl, ap, sym, subst, bytes_eq}
 use Rattle.std.proofs.lemmas.Slice.Eq.{bytes_eq-Decides}
-use Rattle.tenant_state.specs.State.{TenantState}
+use Rattle.tenant_core.specs.tenant_state.specs.State.{TenantState}
 use Rattle.tenant_core.specs.States.{Damaged, Found, HasState, LeavesAsItWas, LeavesAsItWasOr, Outcomes, Shows, States}
 use Rattle.tenant_core.specs.StoreReply.{is_failed}
-use Rattle.tenant_messages.specs.declared.StoreFault.{StoreFault}
+use Rattle.tenant_core.specs.tenant_messages.specs.declared.StoreFault.{StoreFault}
 
 -- an opening finds the change, or each name as it was
 left_after : (old new : States) (left : Outcomes) (name : List ℕ) (made : Option TenantState) → new name made → ((x y : Option TenantState) → new name x → new name y → x ≡ y)

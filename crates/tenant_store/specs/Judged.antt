@@ -1,7 +1,7 @@
 -- The names whose receipts were judged, each with the number of its versions.
 use Rattle.std.specs.Prelude.{◌≡◌, ◌≢◌, ◌⊎◌, ℕ, List, length, Option, Some}
-use Rattle.sqlite_trees.specs.Tree.{Trees}
-use Rattle.tenant_state.specs.State.{TenantState}
+use Rattle.table_schema.specs.sqlite_trees.specs.Tree.{Trees}
+use Rattle.tenant_core.specs.tenant_state.specs.State.{TenantState}
 use Rattle.tenant_tables.specs.Rows.{StandsFor}
 
 -- the number of versions that is remembered of a name

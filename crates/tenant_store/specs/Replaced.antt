@@ -1,7 +1,7 @@
 -- What an opening puts in the place of the tables that a database had.
 use Rattle.std.specs.Prelude.{◌≡◌, ◌⊎◌}
 use Rattle.sqlite.specs.Effect.{Database}
-use Rattle.sqlite_trees.specs.Tree.{Trees}
+use Rattle.table_schema.specs.sqlite_trees.specs.Tree.{Trees}
 use Rattle.table_schema.specs.Layout.{no_schema, first_schema}
 use Rattle.tenant_core.specs.States.{Same}
 use Rattle.tenant_tables.specs.Rows.{StandsFor, StatesIn}

@@ -4,10 +4,10 @@ use Rattle.std.specs.Prelude.{◌≡◌, ℕ, List, Bool, false, Option}
 use Rattle.sqlite.specs.Held.{Held, state}
 use Rattle.sqlite.specs.State.{HasCleanDisk}
 use Rattle.sqlite.specs.Store.{Ghosts}
-use Rattle.sqlite_trees.specs.Tree.{Trees}
+use Rattle.table_schema.specs.sqlite_trees.specs.Tree.{Trees}
 use Rattle.tenant_core.specs.States.{Found, Shows}
 use Rattle.tenant_tables.specs.Rows.{StandsFor}
-use Rattle.tenant_state.specs.State.{TenantState}
+use Rattle.tenant_core.specs.tenant_state.specs.State.{TenantState}
 use Rattle.table_schema.specs.Ready.{IsReady}
 
 -- the rows of a name stand for one state at most

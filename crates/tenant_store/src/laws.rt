@@ -3,10 +3,10 @@
 ghost use Rattle.std.specs.Prelude.{◌≡◌, ◌↔◌, ℕ, List, Bool, false, Option};
 ghost use Rattle.sqlite.specs.Held.{Held, state};
 ghost use Rattle.sqlite.specs.State.{HasCleanDisk};
-ghost use Rattle.sqlite_trees.specs.Tree.{Trees};
+ghost use Rattle.table_schema.specs.sqlite_trees.specs.Tree.{Trees};
 ghost use Rattle.tenant_core.specs.States.{Found, Shows};
 ghost use Rattle.tenant_tables.specs.Rows.{StandsFor};
-ghost use Rattle.tenant_state.specs.State.{TenantState};
+ghost use Rattle.tenant_core.specs.tenant_state.specs.State.{TenantState};
 ghost use Rattle.table_schema.specs.Ready.{IsReady};
 
 use crate::store::Store;

@@ -3,8 +3,8 @@
 ghost use Rattle.std.specs.Prelude.{◌≡◌, ◌⊎◌, false, IfOk, IfErr, IsTrue};
 ghost use Rattle.sqlite.specs.Held.{state};
 ghost use Rattle.sqlite.specs.State.{HasCleanDisk};
-ghost use Rattle.sqlite_trees.specs.Tree.{Trees};
-ghost use Rattle.sqlite_trees.specs.View.{IsClean};
+ghost use Rattle.table_schema.specs.sqlite_trees.specs.Tree.{Trees};
+ghost use Rattle.table_schema.specs.sqlite_trees.specs.View.{IsClean};
 ghost use Rattle.table_schema.specs.Layout.{no_schema, first_schema, IsStoreSchema};
 ghost use Rattle.tenant_core.specs.States.{Same};
 ghost use Rattle.tenant_tables.specs.Opened.{HasVersion, IsKnown, IsStrange};
@@ -20,8 +20,7 @@ use std::alloc::Global;
 use std::collections::BTreeMap;
 use std::marker::Model;
 use std::rc::Rc;
-use tenant_core::{StoreFault, TenantStore};
-use tenant_state::{Change, Inventory, Receipt};
+use tenant_core::{Change, Inventory, Receipt, StoreFault, TenantStore};
 use tenant_tables::laws::names_stand_for_one_state;
 use tenant_tables::tables::Tables;
 

@@ -1,7 +1,7 @@
 //! A store over another one, whose files are watched.
 
 ghost use Rattle.std.specs.Prelude.{◌≡◌, ◌≢◌, ◌⊎◌, ◌↔◌, ℕ, List, Bool, true, false, Option, Some, None, Err, IfOk, IfSome, OnOk, OnErr, option_map};
-ghost use Rattle.tenant_state.specs.State.{CanMake, TenantState, fresh, after};
+ghost use Rattle.tenant_core.specs.tenant_state.specs.State.{CanMake, TenantState, fresh, after};
 ghost use Rattle.tenant_core.specs.States.{LeavesAsItWasOr};
 ghost use Rattle.tenant_core.specs.StoreReply.{is_failed};
 ghost use Rattle.tenant_store.specs.Looks.{FindsFiles, next_look};
@@ -9,8 +9,7 @@ ghost use Rattle.tenant_store.specs.Looks.{FindsFiles, next_look};
 use crate::watch::Watch;
 use std::marker::Model;
 use std::rc::Rc;
-use tenant_core::{Cached, Query, StoreFault, TenantStore};
-use tenant_state::{Change, Inventory, Receipt};
+use tenant_core::{Cached, Change, Inventory, Query, Receipt, StoreFault, TenantStore};
 
 /// A store over another one. A change is made only where the files of the store below are where
 /// they were, and answered as made only where they still are: else the store fails for good. So no

@@ -6,7 +6,7 @@ ghost use Rattle.table_schema.specs.Ready.{IsReady};
 ghost use Rattle.sqlite.specs.Held.{state};
 ghost use Rattle.sqlite.specs.State.{HasCleanDisk, Survives};
 ghost use Rattle.tenant_core.specs.StoreReply.{is_failed};
-ghost use Rattle.tenant_state.specs.State.{CanMake, TenantState, after};
+ghost use Rattle.tenant_core.specs.tenant_state.specs.State.{CanMake, TenantState, after};
 ghost use Rattle.tenant_tables.specs.Changes.{Turns};
 ghost use Rattle.tenant_tables.specs.Rows.{StandsFor};
 ghost use Rattle.tenant_store.specs.Judged.{AreJudged};
@@ -15,8 +15,7 @@ use crate::judged::{Judged, update};
 use crate::reading::{count_versions, tenant_of};
 use sqlite::Alter;
 use std::alloc::Global;
-use tenant_core::StoreFault;
-use tenant_state::{Change, Made};
+use tenant_core::{Change, Made, StoreFault};
 use tenant_tables::tables::Tables;
 use tenant_tables::write_change;
 

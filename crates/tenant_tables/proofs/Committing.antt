@@ -3,23 +3,23 @@ use Rattle.std.proofs.Common.{Bor, ◌≡◌, ℕ, ℤ, List, [], ◌∷◌, map
 use Rattle.std.specs.List.{list_any, AllByRecursion}
 use Rattle.std.specs.List.Sorted.{IsPermutation}
 use Rattle.std.proofs.lemmas.List.Sorted.{IsPermutation-refl}
-use Rattle.sqlite_value.specs.declared.value.Value.TheVariants.{Int, Text as Words}
-use Rattle.sqlite_value.specs.declared.keys.Collation.TheVariants.{Binary}
-use Rattle.sqlite_value.specs.Keys.{plain, joined, first_key}
-use Rattle.sqlite_value.specs.Order.{Row, column, value_cmp}
-use Rattle.sqlite_value.proofs.OrderLemmas.{value_cmp_total}
+use Rattle.table_schema.specs.sqlite_value.specs.declared.value.Value.TheVariants.{Int, Text as Words}
+use Rattle.table_schema.specs.sqlite_value.specs.declared.keys.Collation.TheVariants.{Binary}
+use Rattle.table_schema.specs.sqlite_value.specs.Keys.{plain, joined, first_key}
+use Rattle.table_schema.specs.sqlite_value.specs.Order.{Row, column, value_cmp}
+use Rattle.table_schema.specs.sqlite_value.proofs.OrderLemmas.{value_cmp_total}
 use Rattle.sqlite_trees.specs.declared.store.Shape.TheVariants.{Table as TableShape}
 use Rattle.sqlite_trees.specs.Tree.{Trees, rowid}
 use Rattle.sqlite_trees.specs.View.{IsShaped}
 use Rattle.sqlite_trees.proofs.ListLemmas.{filter_none}
 use Rattle.sqlite_trees.proofs.TreeLemmas.{not_true, IsShaped-put_row}
-use Rattle.sqlite_schema.specs.declared.schema.Constraint.TheVariants.{ForeignKey}
-use Rattle.sqlite_schema.specs.declared.schema.Table.{Table}
-use Rattle.sqlite_schema.specs.Names.{same_name}
-use Rattle.sqlite_schema.specs.Rules.{equal, agree, parent_key, has_parent, Obeys}
-use Rattle.sqlite_rules.specs.Edit.{is_taken}
-use Rattle.sqlite_rules.proofs.ListLemmas.{all_has, all_from, some_has, some_from}
-use Rattle.sqlite_tied.specs.Compute.{everything}
+use Rattle.table_schema.specs.sqlite_schema.specs.declared.schema.Constraint.TheVariants.{ForeignKey}
+use Rattle.table_schema.specs.sqlite_schema.specs.declared.schema.Table.{Table}
+use Rattle.table_schema.specs.sqlite_schema.specs.Names.{same_name}
+use Rattle.table_schema.specs.sqlite_schema.specs.Rules.{equal, agree, parent_key, has_parent, Obeys}
+use Rattle.table_schema.specs.sqlite_rules.specs.Edit.{is_taken}
+use Rattle.table_schema.specs.sqlite_rules.proofs.ListLemmas.{all_has, all_from, some_has, some_from}
+use Rattle.table_schema.specs.sqlite_tied.specs.Compute.{everything}
 use Rattle.sqlite.specs.Effect.{Database, IsDatabase}
 use Rattle.table_schema.specs.declared.schema.Layout.{Layout}
 use Rattle.table_schema.specs.Layout.{store_schema, receipts_tree, pools_tree, exceptions_tree, to_tenant, tenants_table, maps_table, devices_table, pools_table, receipts_table, exceptions_table}

@@ -5,17 +5,17 @@ use Rattle.std.specs.List.{AllByRecursion}
 use Rattle.std.specs.List.Sorted.{IsPermutation}
 use Rattle.std.proofs.lemmas.List.Sorted.{IsPermutation-refl, IsPermutation-map, IsPermutation-trans, IsPermutation-sym, IsPermutation-cons, IsPermutation-middle, All-permutation}
 use Rattle.std.proofs.lemmas.List.Elements.{recursion_from_All, All-from_recursion}
-use Rattle.sqlite_value.specs.declared.value.Value.{Value}
-use Rattle.sqlite_value.specs.declared.value.Value.TheVariants.{Null, Int, Real, Text as Words, Blob}
-use Rattle.sqlite_value.specs.Order.{Row, column}
+use Rattle.table_schema.specs.sqlite_value.specs.declared.value.Value.{Value}
+use Rattle.table_schema.specs.sqlite_value.specs.declared.value.Value.TheVariants.{Null, Int, Real, Text as Words, Blob}
+use Rattle.table_schema.specs.sqlite_value.specs.Order.{Row, column}
 use Rattle.sqlite_trees.specs.Tree.{put_row, rowid}
-use Rattle.sqlite_keyed.proofs.ListLemmas.{all_map}
-use Rattle.sqlite_sql.specs.Ops.{is_null}
-use Rattle.sqlite_schema.specs.declared.schema.Column.{Column}
-use Rattle.sqlite_schema.specs.Rules.{is_of, suits, are_typed}
-use Rattle.sqlite_rules.specs.Cast.{cast, cast_row}
-use Rattle.sqlite_rules.specs.Edit.{is_taken, are_fresh, put_all, numbered, next_rowid, with_rowid}
-use Rattle.sqlite_rules.specs.declared.error.Rowids.TheVariants.{Chosen}
+use Rattle.table_schema.specs.sqlite_keyed.proofs.ListLemmas.{all_map}
+use Rattle.table_schema.specs.sqlite_sql.specs.Ops.{is_null}
+use Rattle.table_schema.specs.sqlite_schema.specs.declared.schema.Column.{Column}
+use Rattle.table_schema.specs.sqlite_schema.specs.Rules.{is_of, suits, are_typed}
+use Rattle.table_schema.specs.sqlite_rules.specs.Cast.{cast, cast_row}
+use Rattle.table_schema.specs.sqlite_rules.specs.Edit.{is_taken, are_fresh, put_all, numbered, next_rowid, with_rowid}
+use Rattle.table_schema.specs.sqlite_rules.specs.declared.error.Rowids.TheVariants.{Chosen}
 use Rattle.sqlite.specs.Kind.{Kind}
 use Rattle.sqlite.specs.Kind.TheVariants.{Integer, Text}
 use Rattle.table_schema.specs.Layout.{placed, first_pools_table, pools_table}

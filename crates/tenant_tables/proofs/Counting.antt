@@ -3,7 +3,7 @@ use Rattle.std.proofs.Common.{◌≡◌, ◌==◌, ◌<◌, ◌||◌, ℕ, List,
 use Rattle.std.specs.List.{list_all, list_any}
 use Rattle.std.proofs.lemmas.Bool.Decides.{nat_tests}
 use Rattle.std.proofs.lemmas.List.{length-map}
-use Rattle.sqlite_value.specs.Order.{Row}
+use Rattle.table_schema.specs.sqlite_value.specs.Order.{Row}
 use Rattle.crush_map.specs.Map.{Map}
 use Rattle.crush_pool.specs.Placements.{rule_numbered}
 use Rattle.tenant_state.specs.State.{Inventory, TenantPool, has_rules_of, have_rules, newest, version}

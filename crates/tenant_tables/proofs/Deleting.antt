@@ -3,23 +3,23 @@ use Rattle.std.proofs.Common.{◌≡◌, ◌≢◌, ℕ, ℤ, List, [], ◌∷�
 use Rattle.std.specs.List.{AllByRecursion}
 use Rattle.std.specs.List.Sorted.{IsPermutation}
 use Rattle.std.proofs.lemmas.List.Sorted.{IsPermutation-map, IsPermutation-sym}
-use Rattle.sqlite_value.specs.declared.value.Value.TheVariants.{Null, Int}
-use Rattle.sqlite_value.specs.declared.keys.Collation.TheVariants.{Binary}
-use Rattle.sqlite_value.specs.Keys.{joined}
-use Rattle.sqlite_value.specs.Order.{Row, column}
+use Rattle.table_schema.specs.sqlite_value.specs.declared.value.Value.TheVariants.{Null, Int}
+use Rattle.table_schema.specs.sqlite_value.specs.declared.keys.Collation.TheVariants.{Binary}
+use Rattle.table_schema.specs.sqlite_value.specs.Keys.{joined}
+use Rattle.table_schema.specs.sqlite_value.specs.Order.{Row, column}
 use Rattle.sqlite_trees.specs.declared.store.Shape.TheVariants.{Table as TableShape}
 use Rattle.sqlite_trees.specs.Tree.{Trees, rowid}
 use Rattle.sqlite_trees.specs.View.{IsShaped}
 use Rattle.sqlite_trees.proofs.ListLemmas.{map-map}
-use Rattle.sqlite_schema.specs.declared.schema.Keys.TheVariants.{Enforced}
-use Rattle.sqlite_schema.specs.declared.schema.Table.{Table}
-use Rattle.sqlite_schema.specs.Names.{same_name}
-use Rattle.sqlite_schema.specs.Rules.{equal}
-use Rattle.sqlite_rules.specs.Edit.{edit_of, id_in, without_all}
-use Rattle.sqlite_rules.specs.Action.{works}
-use Rattle.sqlite_rules.specs.declared.error.Rowids.TheVariants.{Given}
-use Rattle.sqlite_rules.proofs.ListLemmas.{has_filtered, has_kept}
-use Rattle.sqlite_tied.specs.Compute.{everything}
+use Rattle.table_schema.specs.sqlite_schema.specs.declared.schema.Keys.TheVariants.{Enforced}
+use Rattle.table_schema.specs.sqlite_schema.specs.declared.schema.Table.{Table}
+use Rattle.table_schema.specs.sqlite_schema.specs.Names.{same_name}
+use Rattle.table_schema.specs.sqlite_schema.specs.Rules.{equal}
+use Rattle.table_schema.specs.sqlite_rules.specs.Edit.{edit_of, id_in, without_all}
+use Rattle.table_schema.specs.sqlite_rules.specs.Action.{works}
+use Rattle.table_schema.specs.sqlite_rules.specs.declared.error.Rowids.TheVariants.{Given}
+use Rattle.table_schema.specs.sqlite_rules.proofs.ListLemmas.{has_filtered, has_kept}
+use Rattle.table_schema.specs.sqlite_tied.specs.Compute.{everything}
 use Rattle.sqlite.specs.Query.{IsAnswer, Output, output}
 use Rattle.sqlite.specs.Program.{overlay}
 use Rattle.sqlite.specs.Command.TheVariants.{Delete}

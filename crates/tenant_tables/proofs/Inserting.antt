@@ -4,22 +4,22 @@ use Rattle.std.proofs.Math.Dec.{eqb}
 use Rattle.std.proofs.lemmas.Bool.{eq-eqb}
 use Rattle.std.specs.Bool.{MatchBool}
 use Rattle.std.specs.List.{AllByRecursion}
-use Rattle.sqlite_value.specs.declared.value.Value.{Value}
-use Rattle.sqlite_value.specs.declared.value.Value.TheVariants.{Null, Int, Text as Words}
-use Rattle.sqlite_value.specs.Order.{Row}
+use Rattle.table_schema.specs.sqlite_value.specs.declared.value.Value.{Value}
+use Rattle.table_schema.specs.sqlite_value.specs.declared.value.Value.TheVariants.{Null, Int, Text as Words}
+use Rattle.table_schema.specs.sqlite_value.specs.Order.{Row}
 use Rattle.sqlite_trees.specs.Tree.{Trees, put_row, rowid}
 use Rattle.sqlite_trees.specs.View.{is_int}
-use Rattle.sqlite_sql.specs.Ops.{unary}
-use Rattle.sqlite_schema.specs.declared.schema.Keys.TheVariants.{Enforced}
-use Rattle.sqlite_schema.specs.declared.schema.Table.{Table}
-use Rattle.sqlite_schema.specs.declared.schema.Schema.{Schema}
-use Rattle.sqlite_schema.specs.Names.{same_name}
-use Rattle.sqlite_value.specs.Keys.{joined}
-use Rattle.sqlite_tied.specs.Compute.{everything}
-use Rattle.sqlite_rules.specs.Cast.{cast, cast_row}
-use Rattle.sqlite_rules.specs.Edit.{edit_of, is_taken, are_fresh, next_rowid, with_rowid}
-use Rattle.sqlite_rules.specs.Action.{Writes as Leaves, works}
-use Rattle.sqlite_rules.specs.declared.error.Rowids.TheVariants.{Chosen, Above}
+use Rattle.table_schema.specs.sqlite_sql.specs.Ops.{unary}
+use Rattle.table_schema.specs.sqlite_schema.specs.declared.schema.Keys.TheVariants.{Enforced}
+use Rattle.table_schema.specs.sqlite_schema.specs.declared.schema.Table.{Table}
+use Rattle.table_schema.specs.sqlite_schema.specs.declared.schema.Schema.{Schema}
+use Rattle.table_schema.specs.sqlite_schema.specs.Names.{same_name}
+use Rattle.table_schema.specs.sqlite_value.specs.Keys.{joined}
+use Rattle.table_schema.specs.sqlite_tied.specs.Compute.{everything}
+use Rattle.table_schema.specs.sqlite_rules.specs.Cast.{cast, cast_row}
+use Rattle.table_schema.specs.sqlite_rules.specs.Edit.{edit_of, is_taken, are_fresh, next_rowid, with_rowid}
+use Rattle.table_schema.specs.sqlite_rules.specs.Action.{Writes as Leaves, works}
+use Rattle.table_schema.specs.sqlite_rules.specs.declared.error.Rowids.TheVariants.{Chosen, Above}
 use Rattle.sqlite.specs.Kind.TheVariants.{Integer}
 use Rattle.sqlite.specs.Term.{Term}
 use Rattle.sqlite.specs.Source.TheVariants.{Values}

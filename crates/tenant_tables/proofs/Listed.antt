@@ -7,7 +7,7 @@ use mir.Syntax.{w64}
 use Rattle.sqlite.specs.Effect.{Database}
 use Rattle.sqlite_trees.specs.Tree.{Trees}
 use Rattle.crush_map.specs.Map.{Map, IsMap}
-use Rattle.crush_writing.specs.Canonical.{canonical}
+use Rattle.crush_text.specs.crush_writing.specs.Canonical.{canonical}
 use Rattle.tenant_state.specs.State.{Inventory}
 use Rattle.table_schema.specs.Values.{state_row, exception_row}
 use Rattle.table_schema.specs.Found.{Lists, ListsBy, Precedes, IsVersionRow, IsStateRow, IsPoolRow, IsExceptionRow, version_values, pool_values}

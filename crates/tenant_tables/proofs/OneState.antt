@@ -1,11 +1,11 @@
 -- The rows of a name are those of one state at most.
 use Rattle.std.proofs.Common.{◌≡◌, ◌≢◌, ℕ, ℤ, pos, List, [], ◌∷◌, length, map, Option, Some, None, Result, Ok, arith, refl, sym, ap, ◌∙◌, subst, IsPermutation}
-use Rattle.sqlite_value.specs.declared.value.Value.TheVariants.{Int}
-use Rattle.sqlite_value.specs.Order.{Row, column}
+use Rattle.table_schema.specs.sqlite_value.specs.declared.value.Value.TheVariants.{Int}
+use Rattle.table_schema.specs.sqlite_value.specs.Order.{Row, column}
 use Rattle.sqlite_trees.specs.Tree.{Trees}
-use Rattle.crush_grammar.specs.declared.code.TextFault.{TextFault}
+use Rattle.crush_text.specs.crush_grammar.specs.declared.code.TextFault.{TextFault}
 use Rattle.crush_map.specs.Map.{Map, IsMap}
-use Rattle.crush_writing.specs.Canonical.{canonical}
+use Rattle.crush_text.specs.crush_writing.specs.Canonical.{canonical}
 use Rattle.crush_text.specs.Reading.{map_of_stored_text}
 use Rattle.tenant_state.specs.State.{Inventory, TenantState}
 use Rattle.tenant_state.specs.Valid.{IsInventory, IsState}

@@ -7,11 +7,11 @@ use Rattle.std.proofs.lemmas.Bool.Decides.{nat_tests}
 use Rattle.std.proofs.lemmas.Cmp.{on_total, then_total}
 use Rattle.std.proofs.lemmas.List.Elements.{All-head, All-tail}
 use Rattle.std.proofs.lemmas.List.Sorted.{IsPermutation-sym, IsPermutation-trans}
-use Rattle.sqlite_value.specs.Order.{Row, column, value_cmp}
-use Rattle.sqlite_value.proofs.OrderLemmas.{value_cmp_total}
-use Rattle.sqlite_keyed.proofs.ListLemmas.{all-append, all_weaker, ascending-append}
-use Rattle.sqlite_keyed.proofs.SortLemmas.{sorted_unique}
-use Rattle.crush_grammar.proofs.Names.{are_utf8}
+use Rattle.table_schema.specs.sqlite_value.specs.Order.{Row, column, value_cmp}
+use Rattle.table_schema.specs.sqlite_value.proofs.OrderLemmas.{value_cmp_total}
+use Rattle.table_schema.specs.sqlite_keyed.proofs.ListLemmas.{all-append, all_weaker, ascending-append}
+use Rattle.table_schema.specs.sqlite_keyed.proofs.SortLemmas.{sorted_unique}
+use Rattle.crush_text.specs.crush_grammar.proofs.Names.{are_utf8}
 use Rattle.crush_map.specs.Faults.{is_name, is_name_byte}
 use Rattle.crush_map.specs.Map.{Map, IsMap}
 use Rattle.crush_pool.specs.Pools.{is_pool}
@@ -19,7 +19,7 @@ use Rattle.crush_pool.specs.Exceptions.{are_pairs}
 use Rattle.crush_pool.specs.declared.exceptions.Pair.{Pair}
 use Rattle.crush_pool.specs.declared.pool.PoolParts.{PoolParts}
 use Rattle.crush_pool.specs.declared.states.DeviceState.{DeviceState}
-use Rattle.crush_writing.specs.Canonical.{canonical}
+use Rattle.crush_text.specs.crush_writing.specs.Canonical.{canonical}
 use Rattle.tenant_state.specs.Ordered.{is_ascending}
 use Rattle.tenant_state.specs.Receipts.{Receipts, is_before}
 use Rattle.tenant_state.specs.State.{TenantPool, is_lower_device, is_lower_pool}

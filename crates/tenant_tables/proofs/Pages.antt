@@ -9,11 +9,11 @@ use Rattle.std.proofs.lemmas.List.Sorted.{All-permutation, IsPermutation-sym, Is
 use Rattle.std.proofs.lemmas.Bool.Decides.{nat_tests}
 use Rattle.std.specs.declared.string.String.{String}
 use Rattle.std.proofs.lemmas.Str.{IsUtf8-from_is_utf8, IsUtf8-string_bytes, is_utf8-from_IsUtf8}
-use Rattle.sqlite_value.specs.declared.value.Value.TheVariants.{Int, Text as Words}
-use Rattle.sqlite_value.specs.Order.{Row, column, value_cmp}
-use Rattle.sqlite_value.proofs.OrderLemmas.{value_cmp_total}
+use Rattle.table_schema.specs.sqlite_value.specs.declared.value.Value.TheVariants.{Int, Text as Words}
+use Rattle.table_schema.specs.sqlite_value.specs.Order.{Row, column, value_cmp}
+use Rattle.table_schema.specs.sqlite_value.proofs.OrderLemmas.{value_cmp_total}
 use Rattle.sqlite_trees.specs.Tree.{Trees}
-use Rattle.sqlite_keyed.proofs.ListLemmas.{all_weaker, all_unmap, all-filter, all_from_test, test_from_all, filter_all, filter_none, filter-filter, filter-map, IsPermutation-filter, ascending-filter, ascending-append}
+use Rattle.table_schema.specs.sqlite_keyed.proofs.ListLemmas.{all_weaker, all_unmap, all-filter, all_from_test, test_from_all, filter_all, filter_none, filter-filter, filter-map, IsPermutation-filter, ascending-filter, ascending-append}
 use Rattle.tenant_messages.specs.Reply.{success_status}
 use Rattle.tenant_messages.specs.Numbers.{has_length}
 use Rattle.tenant_messages.specs.declared.limits.TheConstants.{REQUEST_NUMBER_LIMIT}

@@ -4,8 +4,8 @@ use Rattle.std.specs.List.{list_all}
 use Rattle.std.proofs.Math.Seq.{take-suc}
 use Rattle.std.proofs.lemmas.Bool.Decides.{nat_tests}
 use Rattle.std.proofs.lemmas.List.{append-nil, get_or_default, length-map, map-append, take-append-drop}
-use Rattle.sqlite_value.specs.Order.{Row}
-use Rattle.sqlite_rules.specs.Lists.{Has}
+use Rattle.table_schema.specs.sqlite_value.specs.Order.{Row}
+use Rattle.table_schema.specs.sqlite_rules.specs.Lists.{Has}
 use Rattle.crush_map.specs.declared.limits.TheConstants.{NUMBER_LIMIT}
 use Rattle.crush_pool.specs.Exceptions.{are_pairs, is_pair}
 use Rattle.crush_pool.specs.Pools.{is_pool}

@@ -4,11 +4,11 @@ use Rattle.std.specs.List.{list_any}
 use Rattle.std.specs.List.Sorted.{IsPermutation}
 use Rattle.std.proofs.lemmas.List.Elements.{filter-append}
 use Rattle.std.proofs.lemmas.List.Sorted.{IsPermutation-append_comm, IsPermutation-append_left, IsPermutation-append_right, IsPermutation-cons, IsPermutation-middle, IsPermutation-refl, IsPermutation-trans}
-use Rattle.sqlite_value.specs.declared.value.Value.TheVariants.{Int}
-use Rattle.sqlite_value.specs.declared.keys.Collation.TheVariants.{Binary}
-use Rattle.sqlite_value.specs.Order.{Row, column}
-use Rattle.sqlite_schema.specs.Rules.{equal}
-use Rattle.sqlite_rules.specs.Lists.{Has}
+use Rattle.table_schema.specs.sqlite_value.specs.declared.value.Value.TheVariants.{Int}
+use Rattle.table_schema.specs.sqlite_value.specs.declared.keys.Collation.TheVariants.{Binary}
+use Rattle.table_schema.specs.sqlite_value.specs.Order.{Row, column}
+use Rattle.table_schema.specs.sqlite_schema.specs.Rules.{equal}
+use Rattle.table_schema.specs.sqlite_rules.specs.Lists.{Has}
 use Rattle.crush_pool.specs.declared.exceptions.Pair.{Pair}
 use Rattle.tenant_state.specs.Ordered.{is_ascending, with_element, without}
 use Rattle.tenant_state.specs.State.{TenantPool, can_have, is_lower_pool, with_pairs}

@@ -4,11 +4,11 @@ use Rattle.std.specs.List.{All, list_all}
 use Rattle.std.specs.Prelude.{Option, Some, None}
 use Rattle.std.proofs.lemmas.List.{map_push}
 use Rattle.std.proofs.lemmas.List.Elements.{All-head, All-tail}
-use Rattle.sqlite_value.specs.Order.{Row}
+use Rattle.table_schema.specs.sqlite_value.specs.Order.{Row}
 use Rattle.crush_map.specs.Map.{Map, IsMap}
 use Rattle.crush_pool.specs.declared.pool.PoolParts.{PoolParts}
 use Rattle.crush_pool.specs.declared.states.DeviceState.{DeviceState}
-use Rattle.crush_writing.specs.Canonical.{canonical}
+use Rattle.crush_text.specs.crush_writing.specs.Canonical.{canonical}
 use Rattle.tenant_messages.specs.Reply.{success_status}
 use Rattle.tenant_messages.specs.declared.reply.SuccessStatus.{SuccessStatus}
 use Rattle.tenant_messages.specs.declared.reply.SuccessStatus.TheVariants.{Done, Created}

@@ -2,23 +2,23 @@
 use Rattle.std.proofs.Common.{◌≡◌, ◌≢◌, inl, inr, ℕ, zero, suc, ℤ, length, length-append, append-nil, List, [], ◌∷◌, ◌++◌, map, filter, Bool, true, false, not, ◌&&◌, ◌||◌, None, Ok, refl, sym, ap, subst, subst₂, ◌∙◌, arith}
 use Rattle.std.specs.List.{list_any, AllByRecursion}
 use Rattle.std.specs.List.Sorted.{IsPermutation}
-use Rattle.sqlite_value.specs.declared.value.Value.TheVariants.{Null, Int}
-use Rattle.sqlite_value.specs.declared.keys.Collation.TheVariants.{Binary}
-use Rattle.sqlite_value.specs.Order.{Row, column}
-use Rattle.sqlite_value.specs.Keys.{plain, joined, first_key}
+use Rattle.table_schema.specs.sqlite_value.specs.declared.value.Value.TheVariants.{Null, Int}
+use Rattle.table_schema.specs.sqlite_value.specs.declared.keys.Collation.TheVariants.{Binary}
+use Rattle.table_schema.specs.sqlite_value.specs.Order.{Row, column}
+use Rattle.table_schema.specs.sqlite_value.specs.Keys.{plain, joined, first_key}
 use Rattle.sqlite_trees.specs.declared.store.Shape.TheVariants.{Table as TableShape}
 use Rattle.sqlite_trees.specs.Tree.{Trees, rowid, without_rowid}
 use Rattle.sqlite_trees.specs.View.{IsShaped}
-use Rattle.sqlite_schema.specs.declared.schema.Keys.TheVariants.{Enforced}
-use Rattle.sqlite_schema.specs.declared.schema.Table.{Table}
-use Rattle.sqlite_schema.specs.Names.{same_name}
-use Rattle.sqlite_sql.specs.Ops.{binary}
-use Rattle.sqlite_schema.specs.Rules.{equal}
-use Rattle.sqlite_rules.specs.Edit.{edit_of, id_in, without_all, taken_by, row_at}
-use Rattle.sqlite_rules.specs.Action.{Work, works, pairs, loses, AreChildren, is_child_of, action_edit, Acts, ActsOn, Leads, Writes as Leaves}
-use Rattle.sqlite_rules.specs.declared.action.Deed.TheVariants.{Delete}
-use Rattle.sqlite_rules.specs.declared.error.Rowids.TheVariants.{Given}
-use Rattle.sqlite_tied.specs.Compute.{everything}
+use Rattle.table_schema.specs.sqlite_schema.specs.declared.schema.Keys.TheVariants.{Enforced}
+use Rattle.table_schema.specs.sqlite_schema.specs.declared.schema.Table.{Table}
+use Rattle.table_schema.specs.sqlite_schema.specs.Names.{same_name}
+use Rattle.table_schema.specs.sqlite_sql.specs.Ops.{binary}
+use Rattle.table_schema.specs.sqlite_schema.specs.Rules.{equal}
+use Rattle.table_schema.specs.sqlite_rules.specs.Edit.{edit_of, id_in, without_all, taken_by, row_at}
+use Rattle.table_schema.specs.sqlite_rules.specs.Action.{Work, works, pairs, loses, AreChildren, is_child_of, action_edit, Acts, ActsOn, Leads, Writes as Leaves}
+use Rattle.table_schema.specs.sqlite_rules.specs.declared.action.Deed.TheVariants.{Delete}
+use Rattle.table_schema.specs.sqlite_rules.specs.declared.error.Rowids.TheVariants.{Given}
+use Rattle.table_schema.specs.sqlite_tied.specs.Compute.{everything}
 use Rattle.sqlite.specs.Query.{IsAnswer, Output, output}
 use Rattle.sqlite.specs.Program.{overlay}
 use Rattle.sqlite.specs.Command.TheVariants.{Delete as DeleteFrom}

@@ -8,18 +8,18 @@ use Rattle.std.proofs.lemmas.Bool.{or_parts, eq-eqb}
 use Rattle.std.proofs.lemmas.Cmp.{tied_itself, tied_back}
 use Rattle.std.proofs.lemmas.Map.Text.{is_eq-slice_cmp}
 use Rattle.std.proofs.lemmas.List.Sorted.{IsPermutation-refl, IsPermutation-cons, IsPermutation-trans, IsPermutation-middle}
-use Rattle.sqlite_value.specs.declared.value.Value.{Value}
-use Rattle.sqlite_value.specs.declared.value.Value.TheVariants.{Null, Int, Real, Text as Words, Blob}
-use Rattle.sqlite_value.specs.declared.keys.Collation.TheVariants.{Binary}
-use Rattle.sqlite_value.specs.Order.{Row, value_cmp}
-use Rattle.sqlite_value.proofs.OrderLemmas.{value_cmp_total, value_cmp-Text, value_cmp-apart}
+use Rattle.table_schema.specs.sqlite_value.specs.declared.value.Value.{Value}
+use Rattle.table_schema.specs.sqlite_value.specs.declared.value.Value.TheVariants.{Null, Int, Real, Text as Words, Blob}
+use Rattle.table_schema.specs.sqlite_value.specs.declared.keys.Collation.TheVariants.{Binary}
+use Rattle.table_schema.specs.sqlite_value.specs.Order.{Row, value_cmp}
+use Rattle.table_schema.specs.sqlite_value.proofs.OrderLemmas.{value_cmp_total, value_cmp-Text, value_cmp-apart}
 use Rattle.sqlite_trees.specs.Tree.{IsTable, put_row, rowid, has_rowid, without_rowid}
 use Rattle.sqlite_trees.proofs.TreeLemmas.{not_true}
-use Rattle.sqlite_sql.specs.Ops.{binary, is_null, is_true, from_truth}
-use Rattle.sqlite_schema.specs.Rules.{equal}
-use Rattle.sqlite_rules.specs.Lists.{Has}
-use Rattle.sqlite_rules.specs.Edit.{is_taken}
-use Rattle.sqlite_rules.proofs.ListLemmas.{all_has}
+use Rattle.table_schema.specs.sqlite_sql.specs.Ops.{binary, is_null, is_true, from_truth}
+use Rattle.table_schema.specs.sqlite_schema.specs.Rules.{equal}
+use Rattle.table_schema.specs.sqlite_rules.specs.Lists.{Has}
+use Rattle.table_schema.specs.sqlite_rules.specs.Edit.{is_taken}
+use Rattle.table_schema.specs.sqlite_rules.proofs.ListLemmas.{all_has}
 
 -- ---- equality of SQL
 

@@ -5,11 +5,11 @@ use Rattle.sqlite.specs.Term.{lit, col}
 use Rattle.sqlite.specs.Query.{Query}
 use Rattle.sqlite.specs.Collation.TheVariants.{Binary}
 use Rattle.sqlite.specs.Source.TheVariants as source
-use Rattle.sqlite_catalog.specs.Change.{created, without_table}
+use Rattle.table_schema.specs.sqlite_catalog.specs.Change.{created, without_table}
 use Rattle.table_schema.proofs.Queries.{plain_query}
 use Rattle.table_schema.specs.declared.schema.Layout.TheVariants.{Compact, Gapped}
 use Rattle.tenant_tables.proofs.WriteTexts.{InsertsOne}
-use Rattle.sqlite_tied.specs.Compute.{everything}
+use Rattle.table_schema.specs.sqlite_tied.specs.Compute.{everything}
 use Rattle.sqlite.specs.Table.{Table}
 use Rattle.sqlite.specs.Schema.{Schema}
 use Rattle.sqlite.specs.Command.TheVariants.{CreateTable, DropTable, Insert, Update}

@@ -4,20 +4,20 @@ use Rattle.std.specs.List.{list_any}
 use Rattle.std.specs.List.Sorted.{IsPermutation}
 use Rattle.std.proofs.lemmas.Cmp.{tied_back, tied_itself}
 use Rattle.std.proofs.lemmas.List.Sorted.{Contains-permutation}
-use Rattle.sqlite_value.specs.declared.value.Value.{Value}
-use Rattle.sqlite_value.specs.declared.value.Value.TheVariants.{Null, Int, Real, Text, Blob}
-use Rattle.sqlite_value.specs.declared.keys.Collation.TheVariants.{Binary}
-use Rattle.sqlite_value.specs.Order.{Row, column, value_cmp}
-use Rattle.sqlite_value.proofs.OrderLemmas.{value_cmp_total}
+use Rattle.table_schema.specs.sqlite_value.specs.declared.value.Value.{Value}
+use Rattle.table_schema.specs.sqlite_value.specs.declared.value.Value.TheVariants.{Null, Int, Real, Text, Blob}
+use Rattle.table_schema.specs.sqlite_value.specs.declared.keys.Collation.TheVariants.{Binary}
+use Rattle.table_schema.specs.sqlite_value.specs.Order.{Row, column, value_cmp}
+use Rattle.table_schema.specs.sqlite_value.proofs.OrderLemmas.{value_cmp_total}
 use Rattle.sqlite_trees.specs.declared.store.Shape.TheVariants.{Table}
 use Rattle.sqlite_trees.specs.Tree.{IsTable, rowid, has_rowid, without_rowid}
 use Rattle.sqlite_trees.specs.View.{IsShaped, is_int}
 use Rattle.sqlite_trees.proofs.ListLemmas.{filter_same, filter_none, filter_all}
 use Rattle.sqlite_trees.proofs.TreeLemmas.{not_true}
-use Rattle.sqlite_schema.specs.Rules.{equal}
-use Rattle.sqlite_rules.specs.Lists.{Has}
-use Rattle.sqlite_rules.specs.Edit.{id_in, without_all, row_at}
-use Rattle.sqlite_rules.proofs.ListLemmas.{all_has, all_from, some_has, some_from, has_contained, contains_had}
+use Rattle.table_schema.specs.sqlite_schema.specs.Rules.{equal}
+use Rattle.table_schema.specs.sqlite_rules.specs.Lists.{Has}
+use Rattle.table_schema.specs.sqlite_rules.specs.Edit.{id_in, without_all, row_at}
+use Rattle.table_schema.specs.sqlite_rules.proofs.ListLemmas.{all_has, all_from, some_has, some_from, has_contained, contains_had}
 use Rattle.tenant_tables.proofs.RowFacts.{tied, equal_parts, equal_itself, one_row}
 
 pub has_permuted : {X : Type 0} (xs ys : List X) (x : X) → IsPermutation xs ys → Has xs x → Has ys x

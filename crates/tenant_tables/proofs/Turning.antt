@@ -4,21 +4,21 @@ use Rattle.std.specs.List.{AllByRecursion}
 use Rattle.std.specs.List.Sorted.{IsPermutation}
 use Rattle.std.proofs.lemmas.Cmp.{tied_itself, tied_back}
 use Rattle.std.proofs.lemmas.List.Sorted.{IsPermutation-cons, IsPermutation-trans, IsPermutation-map}
-use Rattle.sqlite_value.specs.declared.value.Value.{Value}
-use Rattle.sqlite_value.specs.declared.value.Value.TheVariants.{Null, Int, Text as Words}
-use Rattle.sqlite_value.specs.declared.keys.Collation.TheVariants.{Binary}
-use Rattle.sqlite_value.specs.Order.{Row, column, value_cmp}
-use Rattle.sqlite_value.proofs.OrderLemmas.{value_cmp_total}
+use Rattle.table_schema.specs.sqlite_value.specs.declared.value.Value.{Value}
+use Rattle.table_schema.specs.sqlite_value.specs.declared.value.Value.TheVariants.{Null, Int, Text as Words}
+use Rattle.table_schema.specs.sqlite_value.specs.declared.keys.Collation.TheVariants.{Binary}
+use Rattle.table_schema.specs.sqlite_value.specs.Order.{Row, column, value_cmp}
+use Rattle.table_schema.specs.sqlite_value.proofs.OrderLemmas.{value_cmp_total}
 use Rattle.sqlite_trees.specs.declared.store.Shape.TheVariants.{Table as TableShape}
 use Rattle.sqlite_trees.specs.Tree.{Trees, rowid, has_rowid, without_rowid}
 use Rattle.sqlite_trees.specs.View.{IsShaped}
 use Rattle.sqlite_trees.proofs.ListLemmas.{filter_all, filter_none, all_weaker, all_both}
 use Rattle.sqlite_trees.proofs.TreeLemmas.{not_true, IsShaped-put_row, IsShaped-filter}
-use Rattle.sqlite_schema.specs.declared.schema.Table.{Table}
-use Rattle.sqlite_schema.specs.Rules.{equal}
-use Rattle.sqlite_rules.specs.Lists.{Has}
-use Rattle.sqlite_rules.specs.Edit.{row_at}
-use Rattle.sqlite_rules.proofs.ListLemmas.{all_from, has_filtered}
+use Rattle.table_schema.specs.sqlite_schema.specs.declared.schema.Table.{Table}
+use Rattle.table_schema.specs.sqlite_schema.specs.Rules.{equal}
+use Rattle.table_schema.specs.sqlite_rules.specs.Lists.{Has}
+use Rattle.table_schema.specs.sqlite_rules.specs.Edit.{row_at}
+use Rattle.table_schema.specs.sqlite_rules.proofs.ListLemmas.{all_from, has_filtered}
 use Rattle.sqlite.specs.Effect.{Database, IsDatabase}
 use Rattle.table_schema.specs.Layout.{tenants_table, tables_of_tenants}
 use Rattle.table_schema.specs.Holds.{tree_of, rows_in, rows_with, tenants_of, values_of, of_tenant, IsTenant, KeepsRowsOf, AreTables}

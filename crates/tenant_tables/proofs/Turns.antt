@@ -2,12 +2,12 @@
 use Rattle.std.proofs.Common.{◌≡◌, ◌↔◌, ℕ, ℤ, List, map, Option, Some, None, inl, refl, sym, subst, ◌∙◌}
 use Rattle.std.specs.List.{AllByRecursion}
 use Rattle.std.specs.List.Sorted.{IsPermutation}
-use Rattle.sqlite_value.specs.declared.value.Value.TheVariants.{Int}
-use Rattle.sqlite_value.specs.Order.{Row, column}
+use Rattle.table_schema.specs.sqlite_value.specs.declared.value.Value.TheVariants.{Int}
+use Rattle.table_schema.specs.sqlite_value.specs.Order.{Row, column}
 use Rattle.sqlite_trees.specs.Tree.{Trees}
 use Rattle.sqlite_trees.proofs.ListLemmas.{all_weaker}
-use Rattle.sqlite_rules.specs.Lists.{Has}
-use Rattle.sqlite_schema.specs.declared.schema.Table.{Table}
+use Rattle.table_schema.specs.sqlite_rules.specs.Lists.{Has}
+use Rattle.table_schema.specs.sqlite_schema.specs.declared.schema.Table.{Table}
 use Rattle.tenant_state.proofs.Leaving.{fresh_is_state}
 use Rattle.tenant_state.specs.State.{TenantState, epoch, fresh}
 use Rattle.tenant_tables.specs.Change.{Creates, Drops}

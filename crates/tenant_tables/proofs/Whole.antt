@@ -2,8 +2,8 @@
 -- alone.
 use Rattle.std.proofs.Common.{◌≡◌, ◌≤◌, ℕ, ℤ, pos, List, length, map, true, Some, sym, ap, ◌∙◌, subst, IsPermutation}
 use Rattle.std.specs.List.{list_all}
-use Rattle.sqlite_value.specs.declared.value.Value.TheVariants.{Int}
-use Rattle.sqlite_value.specs.Order.{column}
+use Rattle.table_schema.specs.sqlite_value.specs.declared.value.Value.TheVariants.{Int}
+use Rattle.table_schema.specs.sqlite_value.specs.Order.{column}
 use Rattle.sqlite_trees.specs.Tree.{Trees}
 use Rattle.tenant_state.specs.Ordered.{is_ascending}
 use Rattle.tenant_state.specs.Receipts.{Receipts, is_before}

@@ -1,11 +1,11 @@
 -- What the commits make of the rows of a tenant.
 use Rattle.std.specs.Prelude.{◌≡◌, ℕ, ℤ, pos, List, [], ◌∷◌, filter, fold, not}
 use Rattle.std.specs.List.{AllByRecursion}
-use Rattle.sqlite_value.specs.declared.value.Value.TheVariants.{Int}
-use Rattle.sqlite_value.specs.declared.keys.Collation.TheVariants.{Binary}
-use Rattle.sqlite_value.specs.Order.{Row, column}
+use Rattle.table_schema.specs.sqlite_value.specs.declared.value.Value.TheVariants.{Int}
+use Rattle.table_schema.specs.sqlite_value.specs.declared.keys.Collation.TheVariants.{Binary}
+use Rattle.table_schema.specs.sqlite_value.specs.Order.{Row, column}
 use Rattle.sqlite_trees.specs.Tree.{Trees}
-use Rattle.sqlite_schema.specs.Rules.{equal}
+use Rattle.table_schema.specs.sqlite_schema.specs.Rules.{equal}
 use Rattle.table_schema.specs.Layout.{tables_of_tenants}
 use Rattle.table_schema.specs.Holds.{rows_in, rows_with, IsTenant, IsAbsent, TenantRows, Holds, Turns}
 use Rattle.table_schema.specs.Values.{version_row, state_row, pool_row, exception_row, receipt_row}

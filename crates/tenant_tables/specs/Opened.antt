@@ -1,7 +1,7 @@
 -- The tables as an opening makes, finds or replaces them.
 use Rattle.std.specs.Prelude.{◌≡◌, ◌⊎◌, ◌++◌, ◌≢◌, ℕ, ℤ, pos, [], ◌∷◌, map, IsPermutation, IsTrue}
-use Rattle.sqlite_value.specs.declared.value.Value.TheVariants.{Int}
-use Rattle.sqlite_value.specs.Order.{column}
+use Rattle.table_schema.specs.sqlite_value.specs.declared.value.Value.TheVariants.{Int}
+use Rattle.table_schema.specs.sqlite_value.specs.Order.{column}
 use Rattle.std.specs.List.{AllByRecursion}
 use Rattle.sqlite_trees.specs.Tree.{Trees}
 use Rattle.sqlite_trees.specs.declared.store.Shape.TheVariants.{Table}

@@ -1,7 +1,7 @@
 -- Receipts are judged a page at a time.
 use Rattle.std.specs.Prelude.{ℕ, ◌≡◌, ◌⊎◌, ◌↔◌, List, length, map, true, Option, Some, None, IsPermutation, string_bytes}
 use Rattle.std.specs.List.{list_all}
-use Rattle.sqlite_value.specs.Order.{Row}
+use Rattle.table_schema.specs.sqlite_value.specs.Order.{Row}
 use Rattle.tenant_state.specs.Ordered.{is_ascending}
 use Rattle.tenant_state.specs.Receipts.{Receipts, is_before}
 use Rattle.tenant_state.specs.Valid.{is_receipt}

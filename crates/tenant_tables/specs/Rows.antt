@@ -1,15 +1,15 @@
 -- Which rows of the tables stand for which state of a tenant.
 use Rattle.std.specs.Prelude.{ℕ, ℤ, pos, ◌≡◌, ◌⊎◌, ◌+◌, List, [], ◌∷◌, ◌++◌, map, length, Bool, Option, Some, None, if◌then◌else◌, IsPermutation}
 use Rattle.std.specs.List.{AllByRecursion}
-use Rattle.sqlite_value.specs.declared.value.Value.TheVariants.{Int, Text as Words}
-use Rattle.sqlite_value.specs.Order.{Row}
+use Rattle.table_schema.specs.sqlite_value.specs.declared.value.Value.TheVariants.{Int, Text as Words}
+use Rattle.table_schema.specs.sqlite_value.specs.Order.{Row}
 use Rattle.sqlite_trees.specs.Tree.{Trees}
 use Rattle.sqlite.specs.Effect.{Database}
 use Rattle.crush_map.specs.Map.{Map}
 use Rattle.crush_pool.specs.declared.exceptions.Pair.{Pair}
 use Rattle.crush_pool.specs.declared.pool.PoolParts.{PoolParts}
 use Rattle.crush_pool.specs.declared.states.DeviceState.{DeviceState}
-use Rattle.crush_writing.specs.Canonical.{canonical}
+use Rattle.crush_text.specs.crush_writing.specs.Canonical.{canonical}
 use Rattle.tenant_messages.specs.Reply.{success_status}
 use Rattle.tenant_state.specs.State.{TenantPool, TenantState, epoch}
 use Rattle.tenant_state.specs.Valid.{IsState}

@@ -2,9 +2,9 @@
 
 ghost use Rattle.std.specs.Prelude.{◌≡◌, ◌≢◌, ◌↔◌, ◌+◌, ◌<◌, ◌≤◌, ◌^◌, ◌++◌, ℕ, pos, List, [], ◌∷◌, take, length, Some, None, map, true, false, IfOk, IfSome, OnOk, OnErr, Err};
 ghost use Rattle.sqlite.specs.Held.{state};
-ghost use Rattle.sqlite_rules.specs.Lists.{Has};
-ghost use Rattle.sqlite_value.specs.Order.{Row, column};
-ghost use Rattle.sqlite_value.specs.declared.value.Value.TheVariants.{Int};
+ghost use Rattle.table_schema.specs.sqlite_rules.specs.Lists.{Has};
+ghost use Rattle.table_schema.specs.sqlite_value.specs.Order.{Row, column};
+ghost use Rattle.table_schema.specs.sqlite_value.specs.declared.value.Value.TheVariants.{Int};
 ghost use Rattle.sqlite.specs.State.{HasCleanDisk, Survives};
 ghost use Rattle.tenant_messages.specs.Reply.{success_status};
 ghost use Rattle.tenant_state.specs.Made.{made_of};

@@ -4,7 +4,7 @@ ghost use Rattle.std.specs.Prelude.{◌≡◌, ◌≢◌, ◌↔◌, ◌<◌, �
 ghost use Rattle.std.specs.List.{AllByRecursion};
 ghost use Rattle.sqlite.specs.Held.{state};
 ghost use Rattle.sqlite.specs.State.{HasCleanDisk, Survives};
-ghost use Rattle.sqlite_value.specs.Order.{Row};
+ghost use Rattle.table_schema.specs.sqlite_value.specs.Order.{Row};
 ghost use Rattle.tenant_state.specs.Receipts.{Receipts};
 ghost use Rattle.table_schema.specs.Found.{Begins, receipt_values};
 ghost use Rattle.tenant_tables.specs.Changes.{HasReceipts};

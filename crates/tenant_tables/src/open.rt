@@ -6,9 +6,9 @@
 
 ghost use Rattle.std.specs.Prelude.{pos, [], ◌∷◌, map, IsPermutation, ◌≡◌, ◌≢◌, ◌⊎◌, ◌↔◌, false, IfOk, IfErr, OnOk, OnErr, Err, IsTrue};
 ghost use Rattle.sqlite.specs.Held.{state};
-ghost use Rattle.sqlite_value.specs.declared.value.Value.TheVariants.{Int};
+ghost use Rattle.table_schema.specs.sqlite_value.specs.declared.value.Value.TheVariants.{Int};
 ghost use Rattle.sqlite.specs.State.{HasCleanDisk, IsLive, IsUnchanged, Survives};
-ghost use Rattle.sqlite_value.specs.Order.{column};
+ghost use Rattle.table_schema.specs.sqlite_value.specs.Order.{column};
 ghost use Rattle.sqlite.specs.Effect.{IsDatabase};
 ghost use Rattle.table_schema.specs.Layout.{no_schema, first_schema, IsStoreSchema, info_table};
 ghost use Rattle.table_schema.specs.Holds.{rows_in};

@@ -1,7 +1,7 @@
 -- What a scratch has of the tables it is of.
 use Rattle.std.specs.Prelude.{◌≡◌, ℕ, ◌<◌, ◌≤◌, ◌^◌, List, length, slice_index, slice_index_or}
-use Rattle.crush_types.specs.declared.ItemId.{ItemId}
-use Rattle.crush_types.specs.declared.Kind.TheVariants.{Uniform}
+use Rattle.crush_map.specs.crush_types.specs.declared.ItemId.{ItemId}
+use Rattle.crush_map.specs.crush_types.specs.declared.Kind.TheVariants.{Uniform}
 use Rattle.crush_bucket.specs.Bucket.{BucketView}
 use Rattle.crush_hash.specs.Permutation.{no_id}
 use Rattle.crush_bucket.specs.Ahead.{ArePicks}

@@ -1,7 +1,7 @@
 -- What an attempt asks of a uniform bucket.
 use Rattle.std.specs.Prelude.{◌≡◌, ℕ, ◌%◌, ◌<◌, length}
-use Rattle.crush_types.specs.declared.ItemId.{ItemId}
-use Rattle.crush_types.specs.declared.Kind.TheVariants.{Uniform}
+use Rattle.crush_map.specs.crush_types.specs.declared.ItemId.{ItemId}
+use Rattle.crush_map.specs.crush_types.specs.declared.Kind.TheVariants.{Uniform}
 use Rattle.crush_bucket.specs.Bucket.{BucketView}
 
 -- the attempt asks the bucket, which is uniform and has this id and size, for a place

@@ -1,7 +1,7 @@
 -- The way down a tree's nodes, by their weights.
 use Rattle.std.specs.Prelude.{ℕ, zero, suc, ◌+◌, ◌-◌, ◌*◌, ◌/◌, ◌^◌, Bool, nat_lt, if◌then◌else◌, List, [], ◌∷◌, slice_index}
 use Rattle.crush_hash.specs.Hash.{hash4}
-use Rattle.crush_types.specs.declared.ItemId.{ItemId}
+use Rattle.crush_map.specs.crush_types.specs.declared.ItemId.{ItemId}
 use Rattle.crush_bucket.specs.Bucket.{word}
 
 -- whether a node's hash leads to its left child

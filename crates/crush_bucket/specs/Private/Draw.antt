@@ -1,7 +1,7 @@
 -- The kind of a bucket's draw, and what it stores beside the bucket's items.
 use Rattle.std.specs.Prelude.{⊤, List}
-use Rattle.crush_types.specs.declared.Kind.{Kind}
-use Rattle.crush_types.specs.declared.Kind.TheVariants as kinds
+use Rattle.crush_map.specs.crush_types.specs.declared.Kind.{Kind}
+use Rattle.crush_map.specs.crush_types.specs.declared.Kind.TheVariants as kinds
 use Rattle.crush_bucket.specs.declared.any.Draw.{Draw}
 use Rattle.crush_bucket.specs.declared.any.Draw.TheVariants.{Uniform, List as ListDraw, Tree, Straw2}
 use Rattle.crush_bucket.specs.Bucket.{WeightedItem, HasEqualWeights}

@@ -3,7 +3,7 @@ use Rattle.std.specs.Prelude.{◌≡◌, ℕ, negsuc, ◌<◌, ◌^◌, List, le
 use Rattle.std.specs.List.{position_from}
 use Rattle.std.specs.Ordering.{int_eq}
 use Rattle.crush_map.specs.declared.draft.Bucket.{Bucket}
-use Rattle.crush_types.specs.declared.Kind.TheVariants.{Uniform}
+use Rattle.crush_map.specs.crush_types.specs.declared.Kind.TheVariants.{Uniform}
 use Rattle.crush_bucket.specs.Bucket.{total_weight, HasEqualWeights}
 use Rattle.crush_bucket.specs.Tables.{TypedBucket, TablesView, bucket_at, HasItemsBelow}
 

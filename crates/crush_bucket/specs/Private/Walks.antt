@@ -1,8 +1,8 @@
 -- Walks down trees, side by side.
 use Rattle.std.specs.Prelude.{◌≡◌, ℕ, suc, ◌+◌, ◌<◌, ◌≤◌, ◌^◌, List, length, min}
 use Rattle.crush_hash.specs.Hash.{hash4}
-use Rattle.crush_types.specs.declared.ItemId.{ItemId}
-use Rattle.crush_types.specs.declared.Kind.TheVariants.{Tree}
+use Rattle.crush_map.specs.crush_types.specs.declared.ItemId.{ItemId}
+use Rattle.crush_map.specs.crush_types.specs.declared.Kind.TheVariants.{Tree}
 use Rattle.crush_bucket.specs.Bucket.{BucketView, word}
 use Rattle.crush_bucket.specs.Eight.{IsPickedBy}
 use Rattle.crush_bucket.specs.Kinds.{height_of}

@@ -1,17 +1,24 @@
 -- What a cache keeps.
-use Rattle.std.specs.Prelude.{◌≡◌, ℕ, ◌+◌, ◌<◌, ◌≤◌, ◌^◌, List, Contains, length, Some}
-use Rattle.crush_map.specs.Map.{IsMap, Map}
-use Rattle.crush_writing.specs.Canonical.{canonical}
+use Rattle.std.specs.Prelude.{◌≡◌, ℕ, ◌+◌, ◌<◌, ◌≤◌, ◌^◌, List, Contains, length, nat_le, Some}
+use Rattle.crush_pool.specs.crush_map.specs.Map.{IsMap, Map}
+use Rattle.crush_text.specs.crush_writing.specs.Canonical.{canonical}
 use Rattle.crush_pool.specs.Placements.{placement}
 use Rattle.crush_pool.specs.declared.placing.Placement.{Placement}
 use Rattle.crush_cache.specs.Caches.{IsNumberOf, Numbered}
 use Rattle.crush_pool.specs.Contents.{Content}
 use Rattle.crush_cache.specs.declared.entries.Key.{Key}
-use Rattle.crush_cache.specs.declared.limits.TheConstants.{CONTENT_LIMIT}
+use Rattle.crush_cache.specs.declared.limits.TheConstants.{CONTENT_LIMIT, LONG_LIMIT}
+use Rattle.crush_pool.specs.declared.content.TheConstants.{LONG_TEXT}
+use Rattle.std.specs.List.{filter}
 
--- there are not too many contents, and their numbers fit
+-- how many contents have a long text
+abbrev pub long_in : List Content → ℕ
+long_in contents = length (filter (λ c. nat_le LONG_TEXT (length c.text)) contents)
+
+-- there are not too many contents, nor too many with a long text, and their numbers fit
 pub record AreNumbered (k : Numbered) : Type 0 where
   pub few : length k.contents ≤ CONTENT_LIMIT
+  pub long : long_in k.contents ≤ LONG_LIMIT
   pub fit : k.first + length k.contents < 2 ^ 64
 
 -- the placement of a group: by each map that has the content's text

@@ -2,7 +2,7 @@
 -- is false for a call, the call places nothing more.
 use Rattle.std.specs.Prelude.{◌≡◌, ℕ, zero, suc, ◌<◌, ◌&&◌, ◌==◌, nat_lt, Bool, true, false, not, if◌then◌else◌, List, [], length, slice_index_or, Option, Some, None}
 use Rattle.std.specs.List.{list_any}
-use Rattle.crush_types.specs.declared.ItemId.{ItemId}
+use Rattle.crush_map.specs.crush_types.specs.declared.ItemId.{ItemId}
 use Rattle.crush_map.specs.declared.limits.TheConstants.{BUCKET_LIMIT}
 use Rattle.crush_bucket.specs.Pickable.{pickable}
 use Rattle.crush_bucket.specs.Tables.{TablesView, bucket_at, type_at, bucket_numbered}

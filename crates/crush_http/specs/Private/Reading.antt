@@ -4,7 +4,7 @@ use Rattle.std.specs.Io.KnownBytes.{Consumes, IsAtEnd}
 use Rattle.httparse.specs.Grammar.{RequestHead}
 use Rattle.httparse.specs.Spans.{IsWithin, span_bytes}
 use Rattle.tenant_core.specs.declared.limits.TheConstants.{BODY_LIMIT}
-use Rattle.tenant_messages.specs.declared.call.Call.{Call}
+use Rattle.tenant_core.specs.tenant_messages.specs.declared.call.Call.{Call}
 use Rattle.crush_http.specs.Head.{HeadAt}
 use Rattle.crush_http.specs.Headers.{Size, bytes, rejected, size_of, headers_of, closes}
 use Rattle.crush_http.specs.Messages.{IsHalf, IsRejected}

@@ -4,8 +4,8 @@ use Rattle.std.specs.Io.KnownBytes.{Consumes}
 use Rattle.tenant_core.specs.States.{Found, Outcomes, States, Serves}
 use Rattle.tenant_core.specs.StoreReply.{IsUnavailable}
 use Rattle.tenant_service.specs.Served.{IsSession}
-use Rattle.tenant_messages.specs.declared.call.Call.{Call}
-use Rattle.tenant_messages.specs.declared.reply.Reply.{Reply}
+use Rattle.tenant_core.specs.tenant_messages.specs.declared.call.Call.{Call}
+use Rattle.tenant_core.specs.tenant_messages.specs.declared.reply.Reply.{Reply}
 use Rattle.tenant_service.specs.Writing.{AppendsPart, AppendsUpTo}
 use Rattle.crush_http.specs.Messages.{Message, MessageAt, Stop, HasMessages, calls_of}
 use Rattle.crush_http.specs.Serving.{due, EndsAs, LeavesUnread}

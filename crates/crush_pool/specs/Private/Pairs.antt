@@ -2,7 +2,7 @@
 -- of the next.
 use Rattle.std.specs.Prelude.{◌≡◌, ◌<◌, ◌+◌, ℕ, List, drop, length, slice_index_or}
 use Rattle.std.specs.List.{position_or_len}
-use Rattle.crush_types.specs.DeviceValues.{Values, value_at}
+use Rattle.crush_map.specs.crush_types.specs.DeviceValues.{Values, value_at}
 use Rattle.crush_pool.specs.Exceptions.{is_of_group}
 use Rattle.crush_pool.specs.declared.exceptions.Pair.{Pair}
 

@@ -1,7 +1,7 @@
 use Rattle.std.proofs.Common.{◌≡◌, ◌∙◌, ap, sym}
 use Rattle.crush_pool.specs.Contents.{Content, content_of}
 use Rattle.crush_pool.specs.Placers.{PoolOnMap}
-use Rattle.crush_writing.specs.Canonical.{canonical}
+use Rattle.crush_text.specs.crush_writing.specs.Canonical.{canonical}
 use Rattle.cache_tests.proofs.Placers.{same_placer}
 use Rattle.cache_tests.proofs.asking.ask_with.Goals as goal
 

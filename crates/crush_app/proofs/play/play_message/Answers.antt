@@ -1,6 +1,6 @@
 use Rattle.std.proofs.Common.{refl, sym, ◌∙◌}
 use Rattle.std.proofs.lemmas.Bool.{false≢true}
-use Rattle.tenant_messages.specs.CallParts.{call_of}
+use Rattle.tenant_core.specs.tenant_messages.specs.CallParts.{call_of}
 use Rattle.crush_app.proofs.Playing.{plays_bad, plays_call, cut_bad, cut_call}
 use Rattle.tenant_service.proofs.OneSession.{no_session, one_session}
 use Rattle.crush_app.proofs.Stopping.{bad_stopped, call_stopped, line_written}

@@ -1,6 +1,6 @@
 use Rattle.std.proofs.Common.{ℕ, ◌<◌, List, Option, IfSome, [], ◌∷◌, Bor, slice_index, slice_index_or, subst}
 use Rattle.std.proofs.lemmas.Simd.{get_or-replicate}
-use Rattle.crush_types.specs.declared.ItemId.{ItemId}
+use Rattle.crush_map.specs.crush_types.specs.declared.ItemId.{ItemId}
 use Rattle.crush_bucket.specs.declared.any.AnyBucket.{AnyBucket}
 use Rattle.crush_bucket.specs.Eight.{IsPickedBy}
 use Rattle.crush_hash.specs.Permutation.{no_id}

@@ -1,5 +1,5 @@
 use Rattle.std.proofs.Common.{refl, ap}
-use Rattle.crush_types.specs.declared.Kind.{Kind}
+use Rattle.crush_map.specs.crush_types.specs.declared.Kind.{Kind}
 use Rattle.crush_bucket.specs.Pick.{pick, pick_as}
 use Rattle.crush_bucket.proofs.Changes.{at_place}
 use Rattle.crush_bucket.proofs.straw2_laws.a_straw2_bucket_picks_by_its_items.Goals as goal

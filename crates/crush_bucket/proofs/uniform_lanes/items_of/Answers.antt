@@ -1,6 +1,6 @@
 use Rattle.std.proofs.Common.{◌≡◌, ℕ, slice_index, slice_index_or, subst, ◌∙◌, arith}
 use Rattle.std.proofs.lemmas.List.{get_or_default, length-set}
-use Rattle.crush_types.specs.declared.ItemId.{ItemId}
+use Rattle.crush_map.specs.crush_types.specs.declared.ItemId.{ItemId}
 use Rattle.crush_bucket.specs.Bucket.{item_at, IsItemOf}
 use Rattle.crush_hash.specs.Permutation.{no_id}
 use Rattle.crush_hash.proofs.MemberLanes.{more_set}

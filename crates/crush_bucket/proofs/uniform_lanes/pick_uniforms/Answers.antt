@@ -1,5 +1,5 @@
 use Rattle.std.proofs.Common.{◌≡◌, ℕ, ◌%◌, length, slice_index, slice_index_or, refl, ap, ◌∙◌, arith}
-use Rattle.crush_types.specs.declared.ItemId.{ItemId}
+use Rattle.crush_map.specs.crush_types.specs.declared.ItemId.{ItemId}
 use Rattle.crush_bucket.specs.Bucket.{BucketView, IsItemOf, item_at}
 use Rattle.crush_bucket.specs.Eight.{IsPickedBy}
 use Rattle.crush_bucket.specs.Kinds.{uniform_pick}

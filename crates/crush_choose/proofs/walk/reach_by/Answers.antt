@@ -1,6 +1,6 @@
 use Rattle.std.proofs.Common.{ℕ, ap, ◌∙◌, ◌==◌, ◌%◌, ◌&&◌}
 use Rattle.std.proofs.Math.Path.{fun_ext}
-use Rattle.crush_types.specs.Kinds.{is_uniform}
+use Rattle.crush_map.specs.crush_types.specs.Kinds.{is_uniform}
 use Rattle.crush_bucket.specs.Tables.{kind_at, size_at}
 use Rattle.crush_choose.specs.Reach.{reach}
 use Rattle.crush_choose.proofs.Reaching.{steady}

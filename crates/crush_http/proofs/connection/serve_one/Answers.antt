@@ -1,7 +1,7 @@
 use Rattle.std.proofs.Common.{◌≡◌, ◌++◌, [], take, refl, ap, sym, ◌∙◌, subst}
 use Rattle.std.proofs.lemmas.List.{append-nil}
 use Rattle.std.specs.Io.KnownBytes.{Consumes}
-use Rattle.tenant_messages.specs.CallParts.{call_of}
+use Rattle.tenant_core.specs.tenant_messages.specs.CallParts.{call_of}
 use Rattle.tenant_service.specs.Writing.{AppendsPart, AppendsUpTo}
 use Rattle.crush_http.specs.Wire.{reply_wire, rejection_wire}
 use Rattle.crush_http.specs.Private.Reading.{Finds as FindsIncoming, ReadsOn, call_in}

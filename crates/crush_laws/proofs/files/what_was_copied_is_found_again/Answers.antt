@@ -1,4 +1,4 @@
-use Rattle.sqlite.specs.Files.{file_state, image_of}
+use Rattle.crush_server.specs.sqlite.specs.Files.{file_state, image_of}
 use Rattle.crush_laws.proofs.Found.{found_again}
 use Rattle.crush_laws.proofs.files.what_was_copied_is_found_again.Goals as goal
 

@@ -1,5 +1,5 @@
 use Rattle.std.proofs.Common.{◌∷◌, Some}
-use Rattle.tenant_service.specs.History.{IsKeptOf}
+use Rattle.crush_server.specs.tenant_service.specs.History.{IsKeptOf}
 use Rattle.crush_laws.proofs.Doubtful.{leaves_acknowledged, linked_at}
 use Rattle.crush_laws.proofs.Kept.{keeps_acknowledged}
 use Rattle.crush_laws.proofs.Lists.{in_joined, zip_at}

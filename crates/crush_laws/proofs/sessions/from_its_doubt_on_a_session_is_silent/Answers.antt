@@ -1,10 +1,10 @@
 use Rattle.std.proofs.Common.{◌≡◌, ◌<◌, ◌≤◌, length, false, subst, Option, ℕ, arith}
 use Rattle.tenant_core.specs.Alone.{is_answered}
-use Rattle.tenant_service.specs.History.{IsSilentFrom}
+use Rattle.crush_server.specs.tenant_service.specs.History.{IsSilentFrom}
 use Rattle.crush_laws.proofs.Answered.{is_503}
 use Rattle.crush_laws.proofs.Lists.{all_from}
 use Rattle.crush_laws.proofs.sessions.from_its_doubt_on_a_session_is_silent.Goals as goal
-use Rattle.tenant_messages.specs.declared.reply.Reply.{Reply}
+use Rattle.tenant_core.specs.tenant_messages.specs.declared.reply.Reply.{Reply}
 
 pub returns-clause-within : goal.returns-clause-within
 returns-clause-within c = λ t session doubt sound is.

@@ -1,6 +1,6 @@
 use Rattle.std.proofs.Common.{◌≡◌, ap, ◌∙◌}
 use Rattle.tenant_core.specs.States.{Damaged, Found, HasState}
-use Rattle.tenant_service.specs.Served.{session}
+use Rattle.crush_server.specs.tenant_service.specs.Served.{session}
 use Rattle.crush_laws.proofs.Doubtful.{leaves_acknowledged}
 use Rattle.crush_laws.proofs.stops.a_crash_leaves_what_was_acknowledged.Goals as goal
 

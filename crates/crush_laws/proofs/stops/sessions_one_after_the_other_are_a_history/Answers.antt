@@ -1,4 +1,4 @@
-use Rattle.tenant_service.proofs.Served.{history_of_two}
+use Rattle.crush_server.specs.tenant_service.proofs.Served.{history_of_two}
 use Rattle.crush_laws.proofs.stops.sessions_one_after_the_other_are_a_history.Goals as goal
 
 pub returns : goal.returns

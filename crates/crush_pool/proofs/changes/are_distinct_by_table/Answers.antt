@@ -2,7 +2,7 @@ use Rattle.std.proofs.Common.{◌≡◌, None, ◌+◌, ◌-◌, suc, ◌∙◌,
 use Rattle.std.specs.List.{list_any}
 use Rattle.std.proofs.Math.Seq.{drop-length}
 use Rattle.std.proofs.lemmas.List.{take_rest}
-use Rattle.crush_types.specs.declared.limits.TheConstants.{ID_COUNT}
+use Rattle.crush_map.specs.crush_types.specs.declared.limits.TheConstants.{ID_COUNT}
 use Rattle.crush_pool.specs.Changes.{is_of_device}
 use Rattle.crush_pool.proofs.Seen.{none_seen, stands_again}
 use Rattle.crush_pool.proofs.changes.are_distinct_by_table.Goals as goal

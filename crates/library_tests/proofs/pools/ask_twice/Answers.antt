@@ -3,7 +3,7 @@ use Rattle.std.proofs.Common.{◌≡◌, ◌∙◌, Option, Some, None, ap, opti
 use Rattle.crush_pool.specs.Contents.{Content, content_of}
 use Rattle.crush_map.specs.declared.draft.Rule.{Rule}
 use Rattle.crush_pool.specs.Placers.{PoolOnMap}
-use Rattle.crush_writing.specs.Canonical.{canonical}
+use Rattle.crush_text.specs.crush_writing.specs.Canonical.{canonical}
 use Rattle.library_tests.proofs.pools.ask_twice.Goals as goal
 
 -- a placer that is there is that of its parts

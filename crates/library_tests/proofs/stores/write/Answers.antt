@@ -1,6 +1,6 @@
 -- Each call finds the state that the one before it left.
 use Rattle.std.proofs.Common.{◌≡◌, ◌∙◌, Option, Some, None, ap, option_map, refl, subst, sym}
-use Rattle.tenant_state.specs.State.{TenantState, after, fresh, inventory_of}
+use Rattle.tenant_core.specs.tenant_state.specs.State.{TenantState, after, fresh, inventory_of}
 use Rattle.library_tests.proofs.stores.write.Goals as goal
 
 -- a tenant that has nothing is absent

@@ -3,9 +3,9 @@
 use Rattle.std.proofs.Common.{◌∙◌, ap, inl, inr, subst, sym}
 use Rattle.sqlite.specs.Held.{state}
 use Rattle.sqlite.specs.State.{HasCleanDisk}
-use Rattle.sqlite_trees.specs.Tree.{Trees}
+use Rattle.tenant_store.specs.table_schema.specs.sqlite_trees.specs.Tree.{Trees}
 use Rattle.tenant_core.specs.States.{Same}
-use Rattle.tenant_tables.specs.Rows.{StandsFor, StatesIn}
+use Rattle.tenant_store.specs.tenant_tables.specs.Rows.{StandsFor, StatesIn}
 use Rattle.tenant_store.specs.Laws.{left_alone}
 use Rattle.tenant_store.specs.Shown.{IsHonest}
 use Rattle.table_service.proofs.service.open_service.Goals as goal

@@ -5,7 +5,7 @@ use Rattle.sqlite_wal.specs.Recovery.{Image}
 use Rattle.sqlite.specs.Effect.{Database}
 use Rattle.sqlite.specs.Files.{file_state}
 use Rattle.tenant_core.specs.States.{Same}
-use Rattle.tenant_tables.specs.Rows.{StandsFor, StatesIn}
+use Rattle.tenant_store.specs.tenant_tables.specs.Rows.{StandsFor, StatesIn}
 use Rattle.tenant_files.proofs.RefusedFacts.{all_unread, of_db, of_log, unread, unused}
 use Rattle.tenant_files.proofs.StoredFacts.{turned}
 use Rattle.tenant_files.proofs.opening.open_store.Goals as goal

@@ -4,7 +4,7 @@ use Rattle.std.proofs.Math.Seq.{drop-length}
 use Rattle.std.proofs.lemmas.Int.{to_z-of_z}
 use Rattle.std.proofs.lemmas.List.{take_rest}
 use Rattle.crush_bucket.specs.Bucket.{WeightedItem}
-use Rattle.crush_types.specs.declared.limits.TheConstants.{ID_COUNT}
+use Rattle.crush_map.specs.crush_types.specs.declared.limits.TheConstants.{ID_COUNT}
 use Rattle.tenant_reports.specs.Picks.{is_of_item}
 use Rattle.tenant_reports.proofs.Seen.{none_seen, one_more_distinct, one_more_seen, stands_again}
 use Rattle.tenant_reports.proofs.picks.are_many_distinct.Goals as goal

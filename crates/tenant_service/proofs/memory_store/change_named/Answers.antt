@@ -4,7 +4,7 @@ use Rattle.std.specs.BTreeMap.{get_by_text}
 use Rattle.std.specs.declared.alloc.Global.{Global}
 use Rattle.std.proofs.lemmas.Map.Text.{btree_map_updates_text}
 use Rattle.std.proofs.lemmas.Slice.Eq.{bytes_eq-Decides}
-use Rattle.tenant_state.specs.State.{after}
+use Rattle.tenant_core.specs.tenant_state.specs.State.{after}
 use Rattle.tenant_service.proofs.Kept.{changed_at, kept_at, OnOk-map, OnErr-map}
 use Rattle.tenant_service.proofs.KeptStates.{state_at}
 use Rattle.tenant_service.proofs.memory_store.change_named.Goals as goal

@@ -1,5 +1,5 @@
 use Rattle.std.proofs.Common.{◌∙◌}
-use Rattle.tenant_state.specs.State.{inventory_of}
+use Rattle.tenant_core.specs.tenant_state.specs.State.{inventory_of}
 use Rattle.tenant_service.proofs.Kept.{deref_of}
 use Rattle.tenant_service.proofs.Performed.{is_there, leaves_before}
 use Rattle.tenant_service.proofs.service.decide_loaded.Goals as goal

@@ -3,7 +3,7 @@ use Rattle.std.specs.BTreeMap.{get_by_text}
 use Rattle.std.proofs.lemmas.Result.{err_from_is_err_and}
 use Rattle.sqlite.specs.Held.{state}
 use Rattle.sqlite.specs.State.{HasCleanDisk}
-use Rattle.tenant_state.specs.State.{Inventory}
+use Rattle.tenant_core.specs.tenant_state.specs.State.{Inventory}
 use Rattle.tenant_store.proofs.Refusing.{same_fault}
 use Rattle.tenant_store.proofs.Judging.{no_rows, as_remembered, as_read}
 use Rattle.tenant_store.proofs.reading.count_versions.Goals as goal

@@ -5,7 +5,7 @@ use Rattle.sqlite.specs.Effect.{Database}
 use Rattle.sqlite.specs.Held.{state}
 use Rattle.sqlite.specs.State.{HasCleanDisk}
 use Rattle.tenant_tables.specs.Rows.{StandsFor}
-use Rattle.tenant_state.specs.State.{TenantState, inventory_of}
+use Rattle.tenant_core.specs.tenant_state.specs.State.{TenantState, inventory_of}
 use Rattle.tenant_store.specs.Judged.{AreJudged}
 use Rattle.tenant_store.proofs.Refusing.{same_fault, live_at_ok}
 use Rattle.tenant_store.proofs.Judging.{has_inventory, no_tenant}

@@ -4,7 +4,7 @@ use Rattle.sqlite.specs.Effect.{Database}
 use Rattle.sqlite.specs.Held.{state}
 use Rattle.sqlite.specs.State.{HasCleanDisk}
 use Rattle.tenant_tables.specs.Changes.{HasReceipts}
-use Rattle.tenant_state.specs.Receipts.{Receipts}
+use Rattle.tenant_core.specs.tenant_state.specs.Receipts.{Receipts}
 use Rattle.tenant_store.proofs.Refusing.{same_fault, live_at_ok}
 use Rattle.tenant_store.proofs.Judging.{is_whole, no_rows}
 use Rattle.tenant_store.proofs.reading.load_tenant.Goals as goal

@@ -1,5 +1,5 @@
 use Rattle.std.proofs.Common.{subst, string_bytes}
-use Rattle.sqlite_value.specs.declared.value.Value.TheVariants.{Text as Words}
+use Rattle.table_schema.specs.sqlite_value.specs.declared.value.Value.TheVariants.{Text as Words}
 use Rattle.table_schema.specs.Found.{AreReceipt}
 use Rattle.table_schema.specs.Holds.{rows_with}
 use Rattle.tenant_store.proofs.Receipts.{is_none, is_some_row, not_refused}

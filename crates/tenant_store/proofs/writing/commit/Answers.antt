@@ -6,7 +6,7 @@ use Rattle.sqlite.specs.Held.{state}
 use Rattle.sqlite.specs.State.{HasCleanDisk}
 use Rattle.tenant_tables.specs.Changes.{Turns}
 use Rattle.tenant_tables.specs.Rows.{StandsFor}
-use Rattle.tenant_state.specs.State.{after}
+use Rattle.tenant_core.specs.tenant_state.specs.State.{after}
 use Rattle.tenant_store.specs.Judged.{AreJudged}
 use Rattle.tenant_store.proofs.Changing.{commit_survives, is_changeable, nothing_left, still_judged}
 use Rattle.tenant_store.proofs.writing.commit.Goals as goal

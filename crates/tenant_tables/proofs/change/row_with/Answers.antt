@@ -3,9 +3,9 @@ use mir.Syntax.{w64}
 use Rattle.std.proofs.Common.{◌≡◌, ◌++◌, ℤ, map, length, pos, rules, arith, sym, ap, subst, ◌∙◌, to_z, of_z}
 use Rattle.std.specs.Vec.Iter.{into_iter_items}
 use Rattle.std.proofs.lemmas.Int.{to_z-of_z}
-use Rattle.sqlite_rules.specs.Lists.{Has}
-use Rattle.sqlite_value.specs.Order.{column}
-use Rattle.sqlite_value.specs.declared.value.Value.TheVariants.{Int}
+use Rattle.table_schema.specs.sqlite_rules.specs.Lists.{Has}
+use Rattle.table_schema.specs.sqlite_value.specs.Order.{column}
+use Rattle.table_schema.specs.sqlite_value.specs.declared.value.Value.TheVariants.{Int}
 use Rattle.table_schema.specs.Found.{pool_values}
 use Rattle.tenant_tables.proofs.PairRows.{has_it, none_more}
 use Rattle.tenant_tables.proofs.Reading.{push_front}

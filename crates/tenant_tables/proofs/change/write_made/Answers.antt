@@ -3,7 +3,7 @@ use mir.Val.{SFits}
 use mir.Syntax.{w64}
 use Rattle.sqlite.specs.Held.{state}
 use Rattle.sqlite.specs.State.{Survives}
-use Rattle.crush_writing.specs.Canonical.{canonical}
+use Rattle.crush_text.specs.crush_writing.specs.Canonical.{canonical}
 use Rattle.tenant_state.specs.Made.{made_of}
 use Rattle.tenant_state.specs.State.{NewExceptions}
 use Rattle.tenant_tables.specs.Change.{Accepts, with_pool, with_states, with_version, without_pool}

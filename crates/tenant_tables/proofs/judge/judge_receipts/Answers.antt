@@ -3,7 +3,7 @@ use mir.Syntax.{w64}
 use Rattle.std.proofs.Common.{◌≡◌, ◌∙◌, List, map, pos, to_z, of_z, inr, rules, refl, sym, ap, ap₂, subst, arith, Err, string_bytes}
 use Rattle.std.proofs.lemmas.Int.{to_z-of_z}
 use Rattle.std.proofs.lemmas.Result.{err_from_is_err_and}
-use Rattle.sqlite_value.specs.Order.{Row}
+use Rattle.table_schema.specs.sqlite_value.specs.Order.{Row}
 use Rattle.sqlite.specs.Effect.{Database}
 use Rattle.sqlite.specs.Held.{state}
 use Rattle.sqlite.specs.State.{HasCleanDisk}

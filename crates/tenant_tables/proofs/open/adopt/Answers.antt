@@ -2,7 +2,7 @@ use mir.Val.{SFits}
 use mir.Syntax.{w64}
 use Rattle.std.proofs.Common.{rules, ◌≡◌, [], ◌∷◌, map, pos, sym, subst, ◌∙◌}
 use Rattle.std.proofs.lemmas.Int.{to_z-of_z}
-use Rattle.sqlite_value.specs.declared.value.Value.TheVariants.{Int}
+use Rattle.table_schema.specs.sqlite_value.specs.declared.value.Value.TheVariants.{Int}
 use Rattle.sqlite.specs.Held.{state}
 use Rattle.table_schema.specs.Layout.{info_table}
 use Rattle.table_schema.specs.Holds.{rows_in}

@@ -5,7 +5,7 @@ use Rattle.std.specs.List.{list_all}
 use Rattle.std.specs.Vec.Iter.{into_iter_items, into_iter_len}
 use Rattle.std.proofs.lemmas.Int.{to_z-of_z}
 use Rattle.std.proofs.lemmas.List.{append-nil, length-map, map_push}
-use Rattle.sqlite_keyed.proofs.ListLemmas.{list_all_push}
+use Rattle.table_schema.specs.sqlite_keyed.proofs.ListLemmas.{list_all_push}
 use Rattle.tenant_state.specs.Ordered.{is_ascending}
 use Rattle.tenant_state.specs.State.{is_lower_pool}
 use Rattle.tenant_state.specs.Valid.{is_tenant_pool}

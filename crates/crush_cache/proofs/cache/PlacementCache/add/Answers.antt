@@ -1,5 +1,6 @@
 use Rattle.std.proofs.Common.{rules, ◌≡◌, ◌<◌, length, sym, subst}
 use Rattle.crush_cache.specs.Caches.{WasNumberOf}
+use Rattle.crush_cache.specs.Private.Entries.{long_in}
 use Rattle.crush_cache.proofs.Numbers.{are_numbered-more, number_of-last, placement_in-more, was_number-more}
 use Rattle.crush_cache.proofs.cache.PlacementCache.add.Goals as goal
 
@@ -8,10 +9,11 @@ invariant_of-self c = rw c.in-Err.ensures.items c.self.invariant
 
 pub invariant_of-self-2 : goal.invariant_of-self-2
 invariant_of-self-2 c =
-    let few = subst (λ k. length k.contents < 256) (sym c.self.view_is) c.requires in
+    let few = subst (λ k. length k.contents < 256) (sym c.self.view_is) c.requires.room in
+    let long = subst (λ k. long_in k.contents < 64) (sym c.self.view_is) c.requires.long in
     let len : c.len.result ≡ length c.self.inside.contents.items = search rules in
     rw c.in-Ok.ensures.items (
-      are_numbered-more c.self.inside.first c.self.inside.contents.items c.args.content c.len.result len c.self.invariant.0 few c.if-number.false,
+      are_numbered-more c.self.inside.first c.self.inside.contents.items c.args.content c.len.result len c.self.invariant.0 few long c.if-number.false,
       λ e there. placement_in-more c.self.inside.first c.self.inside.contents.items c.args.content e.0.number e.0.group e.1.value (c.self.invariant.1 e there),
     )
 

@@ -1,6 +1,6 @@
 use Rattle.std.proofs.Common.{List, length, sym, ap, ◌∙◌, arith, length-take-le}
 use Rattle.std.specs.Prelude.{Option}
-use Rattle.crush_types.specs.declared.ItemId.{ItemId}
+use Rattle.crush_map.specs.crush_types.specs.declared.ItemId.{ItemId}
 use Rattle.crush_choose.proofs.row.Row.len.Goals as goal
 
 pub returns-clause-value : goal.returns-clause-value

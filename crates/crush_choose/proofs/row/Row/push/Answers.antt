@@ -1,6 +1,6 @@
 use Rattle.std.proofs.Common.{◌≡◌, ◌<◌, ◌+◌, ◌++◌, ◌∷◌, [], ℕ, suc, List, length, take, set, sym, ap, ◌∙◌, arith, length-take-le, take-suc-set}
 use Rattle.std.specs.Prelude.{Option}
-use Rattle.crush_types.specs.declared.ItemId.{ItemId}
+use Rattle.crush_map.specs.crush_types.specs.declared.ItemId.{ItemId}
 use Rattle.crush_choose.proofs.row.Row.push.Goals as goal
 
 pub returns : goal.returns

@@ -1,5 +1,5 @@
 use Rattle.std.proofs.Common.{◌≡◌, ◌∙◌, ap, drop, true, false, arith, List, Bool}
-use Rattle.crush_types.specs.DeviceValues.{values_of}
+use Rattle.crush_map.specs.crush_types.specs.DeviceValues.{values_of}
 use Rattle.crush_pool.specs.States.{up_at, ups}
 use Rattle.crush_pool.proofs.Flags.{all_is, flag_of, none_yet, rest_is, state_put}
 use Rattle.crush_pool.proofs.states.DeviceStates.build.Goals as goal

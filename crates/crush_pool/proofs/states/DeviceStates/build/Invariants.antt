@@ -1,5 +1,5 @@
 use Rattle.std.proofs.Common.{◌≡◌, drop, true}
-use Rattle.crush_types.specs.DeviceValues.{values_of}
+use Rattle.crush_map.specs.crush_types.specs.DeviceValues.{values_of}
 use Rattle.crush_pool.specs.States.{ups}
 use Rattle.crush_pool.proofs.states.DeviceStates.build.Given as goal
 

@@ -1,7 +1,7 @@
 use Rattle.std.proofs.Common.{◌≡◌, Some, refl}
 use Rattle.std.specs.BTreeMap.{get_by_text}
 use Rattle.session_tests.proofs.Stopped.{left_by}
-use Rattle.tenant_state.specs.State.{fresh}
+use Rattle.tenant_core.specs.tenant_state.specs.State.{fresh}
 use Rattle.session_tests.proofs.stopping.StoppingTenantStore.create.Goals as goal
 
 pub returns-then-not-stops-clause-others : goal.returns-then-not-stops-clause-others

@@ -1,8 +1,8 @@
 use Rattle.std.proofs.Common.{subst, sym}
 use Rattle.std.specs.BTreeMap.{get_by_text}
 use Rattle.tenant_service.proofs.KeptStates.{states_put}
-use Rattle.tenant_state.proofs.Leaving.{fresh_is_state}
-use Rattle.tenant_state.specs.Valid.{IsState}
+use Rattle.tenant_core.specs.tenant_state.proofs.Leaving.{fresh_is_state}
+use Rattle.tenant_core.specs.tenant_state.specs.Valid.{IsState}
 use Rattle.tenant_service.proofs.memory_store.MemoryStoreTenantStore.create.Goals as goal
 
 pub invariant_of-self-2 : goal.invariant_of-self-2

@@ -4,7 +4,7 @@ use Rattle.tenant_core.proofs.Running.{run_on}
 use Rattle.tenant_core.specs.States.{LeavesStep, MeetsDefinition}
 use Rattle.tenant_service.proofs.Served.{OneMore, latch_after, leaves_more, silent_after}
 use Rattle.tenant_service.specs.Private.{LeavesSoFar, doubt_after}
-use Rattle.tenant_messages.specs.declared.call.Call.{Call}
+use Rattle.tenant_core.specs.tenant_messages.specs.declared.call.Call.{Call}
 use Rattle.tenant_service.proofs.service.Service.serve_session.Goals as goal
 
 -- one more call was served, its reply added to the others, and the doubt set if it latched the

@@ -4,7 +4,7 @@ use Rattle.sqlite.specs.Held.{state}
 use Rattle.sqlite.specs.State.{HasCleanDisk}
 use Rattle.tenant_tables.specs.Changes.{Turns}
 use Rattle.tenant_tables.specs.Rows.{StandsFor}
-use Rattle.tenant_state.specs.State.{CanMake, TenantState, after}
+use Rattle.tenant_core.specs.tenant_state.specs.State.{CanMake, TenantState, after}
 use Rattle.tenant_store.proofs.Changing.{can_make}
 use Rattle.tenant_store.proofs.Stopping.{as_it_was_or}
 use Rattle.tenant_store.proofs.store.StoreTenantStore.commit.Goals as goal

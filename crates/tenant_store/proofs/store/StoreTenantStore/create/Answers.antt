@@ -4,7 +4,7 @@ use Rattle.std.proofs.lemmas.Result.{on_ok_weaker}
 use Rattle.sqlite.specs.Held.{state}
 use Rattle.sqlite.specs.State.{HasCleanDisk}
 use Rattle.tenant_tables.proofs.Turns.{created}
-use Rattle.tenant_state.specs.State.{fresh}
+use Rattle.tenant_core.specs.tenant_state.specs.State.{fresh}
 use Rattle.tenant_tables.specs.Change.{Creates}
 use Rattle.tenant_store.specs.Laws.{keeps_states}
 use Rattle.tenant_store.proofs.Changing.{forgotten_judged}

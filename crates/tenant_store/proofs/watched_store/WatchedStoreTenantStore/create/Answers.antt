@@ -1,5 +1,5 @@
 use Rattle.std.proofs.Common.{rules, ◌≡◌, true, Some, is_ok}
-use Rattle.tenant_state.specs.State.{fresh}
+use Rattle.tenant_core.specs.tenant_state.specs.State.{fresh}
 use Rattle.tenant_store.proofs.Watching.{left_missed}
 use Rattle.tenant_store.proofs.watched_store.WatchedStoreTenantStore.create.Goals as goal
 
