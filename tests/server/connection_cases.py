@@ -10,12 +10,16 @@ import time
 from program.hostile_cases import BODIES, BODY_LIMIT, HEADS, exceptions
 from model.maps import with_devices
 from model.messages import EXISTS, TOO_LARGE, dropped, import_of, made, short, there
-from server.served import SECONDS, Server, asked, free_port, message, replies_on, reset
+from server.served import SECONDS, Server, asked, free_port, message, read_reply, replies_on, reset
 
 HERE = pathlib.Path(__file__).resolve().parent
 
 WAIT = 5
 MESSAGES = 10_000
+HEAD_LIMIT = 8_192  # bytes that the server reads at once at most
+# pairs of messages, and the seconds from which on their replies are slow: a system that has nothing
+# to send puts off an acknowledgement for 0.04
+PAIRS, SLOW = 40, 0.03
 LITTLE = 1 << 20  # bytes that may come and go without a body
 
 
@@ -67,6 +71,29 @@ def byte_by_byte(program, db):
             connection.send(bytes([byte]))
         connection.shutdown(socket.SHUT_WR)
         return unlike(replies_on(connection), ([made(b"a"), b'200 {"item":4}'], False))
+
+
+def two_replies_at_once(program, db):
+    """Of two messages that the server reads at two times, the second reply doesn't wait until the
+    client's system has acknowledged the first. By turns with two that are read at one time, so that
+    a busy machine delays both alike."""
+    apart, together = (
+        b"".join(message(b"GET /t/a", b"X: " + b"x" * it) for it in lengths)
+        for lengths in ((HEAD_LIMIT - 100, 200), (1, 1))
+    )
+    slow = {apart: 0, together: 0}
+    with Server(program, db) as server, server.connect() as connection, connection.makefile("rb") as stream:
+        connection.sendall(message(b"PUT /t/a"))
+        read_reply(stream)
+        for data in (together, apart) * PAIRS:
+            start = time.monotonic()
+            connection.sendall(data)
+            found = [read_reply(stream) for _each in range(2)]
+            slow[data] += time.monotonic() - start >= SLOW
+            if found != [(there(b"a"), False)] * 2:
+                return f"the replies are {found}"
+    more = slow[apart] - slow[together]
+    return None if more <= PAIRS // 2 else f"{slow[apart]} of {PAIRS} are slow, and {slow[together]} read at one time"
 
 
 def examples(program, db):
@@ -276,6 +303,7 @@ def cases():
         accepts_that_fail,
         two_messages,
         byte_by_byte,
+        two_replies_at_once,
         examples,
         heads,
         bodies,
