@@ -77,7 +77,8 @@ help:
 ##
 ## make package   builds, and makes a Debian package and a tarball of the program, the page, the
 ##                pages and the unit: build/package
-## make release   make test-all with a program that names its commit, and then make dist
+## make release   make test with every wrong body that has no valid record, and with a program that
+##                names its commit; then make dist
 ## make dist      a release of what the last gate proved and built, or a word why there is none:
 ##                dist/crushcalc-VERSION
 ##
@@ -219,7 +220,7 @@ rebuild-check: tools
 
 release: tools
 	@python3 tools/dist --ready
-	@RT='$(RT)' python3 tests/all --all --stamp
+	@RT='$(RT)' python3 tests/all --stamp
 	@RT='$(RT)' python3 tools/dist
 
 dist: tools
