@@ -79,6 +79,11 @@ class AfterDrain:
             return {}
         return Stages(self.plan, self.pools, drained).set_map(self.gone, self.texts[0])
 
+    def is_plain(self):
+        """Returns whether pools have neither upmap items nor lists, of which the monitors could
+        remove some while devices are drained: then nobody has to wait for what they leave."""
+        return not any(self.plan.pairs[it] or self.plan.exceptions.lists.get(it) for it in self.pools)
+
     def ask_weight_first(self):
         """Asks what the CRUSH weight of 0 moves, and then the removal: side by side where no upmap
         items are there, of which the first could remove some."""

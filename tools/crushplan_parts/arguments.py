@@ -1,6 +1,5 @@
 """The program's arguments and its help."""
 import argparse
-import fractions
 
 from .faults import Fault, nearest
 
@@ -197,7 +196,7 @@ def at_least(least, most=None):
     """Returns a function that reads a number as 4, 2.5 or 7/3, with bounds."""
 
     def read(text):
-        import fractions
+        import fractions  # takes a while to read
 
         try:
             value = fractions.Fraction(text) if len(text) <= LONGEST_NUMBER else None
@@ -260,15 +259,17 @@ def common(words):
     )
 
 
-def parser():
-    """Returns the parser of all arguments."""
+def parser(words=()):
+    """Returns the parser of all arguments. Where the first of the words is a command, it may lack
+    the other commands: to make the parsers of all takes longer than to read a small cluster."""
+    own = {words[0]: COMMANDS[words[0]]} if words and words[0] in COMMANDS else COMMANDS
     raw = argparse.RawDescriptionHelpFormatter
     whole = Parser(prog="crushplan", description=ABOUT, epilog=END, formatter_class=raw, allow_abbrev=False)
     whole.add_argument("--version", action="store_true", help="says its version, and that of crushcalc")
     # what the completions of shells ask: names of one kind that a folder has
     whole.add_argument("--names", dest="names_of", nargs=2, metavar=("KIND", "DIR"), help=argparse.SUPPRESS)
-    commands = whole.add_subparsers(dest="command", metavar="COMMAND", title="commands")
-    for name, (what, example) in COMMANDS.items():
+    commands = whole.add_subparsers(dest="command", metavar="COMMAND", title="commands", prog=whole.prog)
+    for name, (what, example) in own.items():
         more = f"\n\n{MORE[name]}" if name in MORE else ""
         one = commands.add_parser(
             name,
@@ -282,8 +283,8 @@ def parser():
         ADD[name](one)
         if name != "fetch":
             common(one)
-    own = {"help": "shows this, or the help of a command", "description": "Shows the help of a command."}
-    said = commands.add_parser("help", **own, allow_abbrev=False)
+    both = {"help": "shows this, or the help of a command", "description": "Shows the help of a command."}
+    said = commands.add_parser("help", **both, allow_abbrev=False)
     said.add_argument("topic", nargs="?", metavar="COMMAND", help="one of: " + ", ".join(COMMANDS))
     whole.commands = commands.choices
     return whole
@@ -418,6 +419,8 @@ def add_plan(words):
 
 
 def rate(text):
+    import fractions  # takes a while to read
+
     try:
         value = fractions.Fraction(text)
     except (ValueError, ZeroDivisionError):

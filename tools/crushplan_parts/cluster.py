@@ -1,16 +1,14 @@
 """A cluster, from the folder of its dumps: map, pools, states of devices, upmap items, bytes."""
-import dataclasses
-import fractions
-from decimal import Decimal
 import pathlib
 import re
-import typing
+from decimal import Decimal
 
 from .crush_map import KINDS, MOST_DEVICES, ONE, mark_holes
 from .faults import Fault, some
 from .fields import opened
 from .read_dump import read_dump
 from .read_pgs import NONE, read_pgs
+from .record import Record
 
 MAP_DUMP, MAP_TEXT, OSD_DUMP, DF, OSD_DF, PGS = (
     "crush.json",
@@ -24,25 +22,25 @@ HASHPSPOOL, RJENKINS = 1, 2
 GROUP = re.compile(r"(\d{1,10})\.([0-9a-f]{1,8})")
 
 
-@dataclasses.dataclass
-class Pool:
-    """A pool. `bytes` is what it takes on all its devices, or None where that isn't known."""
+class Pool(Record):
+    """A pool. `bytes` is what it takes on all its devices, or None where that isn't known;
+    `split_to` the pg_num and pgp_num that it is on its way to, or None; `stretched` whether its I/O
+    also stops where a site has no copy (stretch mode); `tiers` the pools that objects of it may lie
+    in instead, or that it is the cache of; `profile` that of its erasure code."""
 
-    id: int
-    name: str
-    kind: str
-    size: int
-    min_size: int
-    rule: int
-    pg_num: int
-    pgp_num: int
-    hashpspool: bool
-    object_hash: int = RJENKINS
-    split_to: typing.Optional[tuple] = None  # the pg_num and pgp_num that it is on its way to
-    bytes: typing.Optional[int] = None
-    stretched: bool = False  # whether its I/O also stops where a site has no copy (stretch mode)
-    tiers: tuple = ()  # the pools that objects of it may lie in instead, or that it is the cache of
-    profile: str = ""  # of its erasure code
+    def __init__(
+        self, id, name, kind, size, min_size, rule, pg_num, pgp_num, hashpspool,
+        object_hash=RJENKINS, split_to=None, bytes=None, stretched=False, tiers=(), profile="",
+    ):  # fmt: skip
+        self.id, self.name, self.kind, self.size, self.min_size, self.rule = id, name, kind, size, min_size, rule
+        self.pg_num, self.pgp_num, self.hashpspool, self.object_hash = pg_num, pgp_num, hashpspool, object_hash
+        self.split_to, self.bytes, self.stretched, self.tiers, self.profile = (
+            split_to,
+            bytes,
+            stretched,
+            tiers,
+            profile,
+        )
 
     def group_name(self, group):
         """Returns a group's id as Ceph writes it."""
@@ -63,52 +61,48 @@ class Pool:
         return group & mask if group & mask < self.pgp_num else group & (mask >> 1)
 
 
-@dataclasses.dataclass
-class State:
+class State(Record):
     """The state of a device: its reweight in 65536ths, and whether it is up."""
 
-    reweight: int = ONE
-    up: bool = True
+    def __init__(self, reweight=ONE, up=True):
+        self.reweight, self.up = reweight, up
 
 
-@dataclasses.dataclass
-class Room:
+class Room(Record):
     """What a device holds and can hold, in bytes, and how many groups it has, or None."""
 
-    used: int
-    size: int
-    groups: typing.Optional[int] = None
+    def __init__(self, used, size, groups=None):
+        self.used, self.size, self.groups = used, size, groups
 
     def used_after(self, gained=0):
         """Returns which part of it is used once so many bytes are added, or None where its size
         isn't known."""
+        import fractions  # takes a while to read, and not all commands ask it
+
         return fractions.Fraction(max(self.used + gained, 0)) / self.size if self.size > 0 else None
 
 
-@dataclasses.dataclass
-class Cluster:
-    """All that the files of a folder say."""
+class Cluster(Record):
+    """All that the files of a folder say.
 
-    folder: pathlib.Path
-    map: object
-    pools: dict
-    states: dict
-    pairs: dict  # upmap items: of each pool, of each group, its pairs of devices
-    lists: dict  # whole upmap lists: of each pool, of each group, its devices, None for a place without one
-    temporary: dict  # pg_temp and primary_temp: of each, of each pool, of each group, its devices
-    primaries: dict  # primaries that were set (pg_upmap_primaries): of each pool, of each group
-    affinity: dict  # primary affinities in 65536ths, by device, where they aren't 1
-    ratios: dict
-    rooms: dict
-    warnings: list
-    described: bool = False  # whether the pools come from the command line
-    flags: tuple = ()  # of the whole cluster, as noout
-    own_flags: dict = dataclasses.field(default_factory=dict)  # of single devices, buckets and classes, by name
-    groups: typing.Optional[object] = None  # where the cluster itself says that groups lie
-    releases: dict = dataclasses.field(default_factory=dict)  # the least ones that it asks for, by field
+    Of each pool and each group: `pairs` are its upmap items, `lists` its whole upmap list, None for
+    a place without a device, `primaries` the primary that was set (pg_upmap_primaries). `temporary`
+    are pg_temp and primary_temp: of each, of each pool, of each group, its devices. `affinity` are
+    primary affinities in 65536ths, by device, where they aren't 1. `described` is whether the pools
+    come from the command line, `flags` are those of the whole cluster, as noout, and `own_flags` of
+    single devices, buckets and classes, by name. `groups` is where the cluster itself says that
+    groups lie, or None; `releases` are the least ones that it asks for, by field."""
+
+    def __init__(self, folder, map_, states):
+        self.folder, self.map, self.states, self.pools, self.rooms = folder, map_, states, {}, {}
+        self.pairs, self.lists, self.temporary, self.primaries, self.affinity = {}, {}, {}, {}, {}
+        self.ratios, self.releases, self.flags, self.own_flags = {}, {}, (), {}
+        self.groups, self.described, self.warnings = None, False, []
 
     def is_past(self, name, used):
         """Returns whether such a part of a device's room is more than a ratio of the cluster."""
+        import fractions
+
         return used is not None and name in self.ratios and used > fractions.Fraction(self.ratios[name])
 
 
@@ -162,7 +156,7 @@ def read_cluster(folder, asked):
     dump = opened(path, OSD_DUMP) if path.exists() else None
     states = {} if dump is None else states_of(dump)
     map_ = read_map(folder, None if dump is None else 0 in states)
-    cluster = Cluster(folder, map_, {}, states, {}, {}, {}, {}, {}, {}, {}, [])
+    cluster = Cluster(folder, map_, states)
     if map_.rounded:
         cluster.warnings.append(
             f"{map_.file} has weights that 'crushtool -d' rounded to three decimals; {MAP_DUMP} ('ceph osd crush dump"
@@ -182,7 +176,7 @@ def states_of(dump):
         raise Fault(f"{OSD_DUMP} has no fields 'osds' and 'pools': it isn't what 'ceph osd dump -f json' writes")
     found = {}
     for it in dump.each("osds"):
-        id_, weight = it.get("osd", int), fixed(it.at("weight").of_kind(Decimal))
+        id_, weight = it.get("osd", int), fixed(it.get("weight", Decimal))
         if not 0 <= id_ < MOST_DEVICES:
             raise Fault(f"{it.where}: osd is {id_}, and ids are 0 to {MOST_DEVICES - 1}")
         if weight < 0:
@@ -225,9 +219,9 @@ def read_osd_dump(cluster, dump, asked):
     for name in ("pg_temp", "primary_temp"):
         cluster.temporary[name] = groups_named(dump, name)
     for it in dump.each("osds"):
-        affinity = fixed(it.at("primary_affinity").of_kind(Decimal)) if it.has("primary_affinity") else ONE
-        if affinity != ONE:
-            cluster.affinity[it.get("osd", int)] = affinity
+        affinity = it.get("primary_affinity", Decimal, None)
+        if affinity is not None and fixed(affinity) != ONE:
+            cluster.affinity[it.get("osd", int)] = fixed(affinity)
     for name in ("require_min_compat_client", "require_osd_release"):
         if dump.has(name):
             cluster.releases[name] = dump.get(name, str)
@@ -240,9 +234,9 @@ def read_flags(cluster, dump):
     """Reads the flags of the cluster, and those of single devices, buckets and classes."""
     cluster.flags = tuple(dump.get("flags", str, "").split(","))
     for it in dump.each("osds"):
-        own = [of.of_kind(str) for of in it.each("state", ())]
+        own = it.texts("state")
         if "noout" in own:
-            cluster.own_flags[f"osd.{it.get('osd', int)}"] = own
+            cluster.own_flags[f"osd.{it.get('osd', int)}"] = list(own)
     for name, what in (("crush_node_flags", ""), ("device_class_flags", "the class ")):
         inner = dump.at(name) if dump.has(name) else None
         for key in inner.of_kind(dict) if inner else ():
@@ -370,7 +364,8 @@ def read_rooms(cluster, dump):
         id_ = it.get("id", int)
         if id_ < 0:
             continue
-        if any(of != of for of in it.value.values()):  # as no number but nan
+        # of the numbers of a dump only one that is none is a float
+        if float in map(type, it.value.values()) and any(of != of for of in it.value.values()):
             odd.append(f"osd.{id_}")
             continue
         cluster.rooms[id_] = Room(

@@ -1,6 +1,5 @@
 """A CRUSH map as its dump or its text declares it, whether crushcalc computes it or not."""
-import dataclasses
-import typing
+from .record import Record
 
 COMPUTED = ("list", "straw2", "tree", "uniform")
 ONE = 65536
@@ -18,18 +17,14 @@ TUNABLES = (
 MOST_DEVICES = 65536  # ids of devices are below it
 
 
-@dataclasses.dataclass
-class Bucket:
+class Bucket(Record):
     """A bucket: items are pairs of an id and a weight in 65536ths, in their places. A hole, which a
-    removed item left in a tree bucket, is a pair of None and 0."""
+    removed item left in a tree bucket, is a pair of None and 0. `shadow` is the class whose devices
+    alone it has, or None."""
 
-    id: int
-    name: str
-    type: int
-    alg: str
-    hash: str
-    items: list
-    shadow: typing.Optional[str] = None  # the class whose devices alone it has
+    def __init__(self, id, name, type, alg, hash, items, shadow=None):
+        self.id, self.name, self.type, self.alg, self.hash = id, name, type, alg, hash
+        self.items, self.shadow = items, shadow
 
     def weight(self):
         return sum(weight for _, weight in self.items)
@@ -39,52 +34,44 @@ class Bucket:
         return [place for place, (item, _) in enumerate(self.items) if item is None]
 
 
-@dataclasses.dataclass
-class Rule:
+class Rule(Record):
     """A rule: steps are tuples of words, as they stand in a text; a take has the id of its item,
-    and a class or None. `sizes` are the bounds that release 16 gives it, or None."""
+    and a class or None. `sizes` are the bounds that release 16 gives it, or None; `odd` is why it
+    can't be computed, whatever it takes, or None."""
 
-    id: int
-    name: str
-    kind: str
-    steps: list
-    sizes: typing.Optional[tuple] = None
-    odd: typing.Optional[str] = None  # why it can't be computed, whatever it takes
+    def __init__(self, id, name, kind, steps, sizes=None, odd=None):
+        self.id, self.name, self.kind, self.steps, self.sizes, self.odd = id, name, kind, steps, sizes, odd
 
     def takes(self):
         return [step[1] for step in self.steps if step[0] == "take"]
 
 
-@dataclasses.dataclass
-class WeightSet:
+class WeightSet(Record):
     """Weights by which pools are placed instead of those of the map (choose_args). `rows` are by
     bucket: a list of weights for each position. `with_ids` are the buckets that also have other ids
-    for their items."""
+    for their items, and `rounded` is whether weights of 256 and more may be a little others in the
+    cluster."""
 
-    rows: dict
-    with_ids: list = dataclasses.field(default_factory=list)
-    rounded: bool = False  # whether weights of 256 and more may be a little others in the cluster
+    def __init__(self, rows, with_ids=None, rounded=False):
+        self.rows, self.with_ids, self.rounded = rows, [] if with_ids is None else with_ids, rounded
 
 
-@dataclasses.dataclass
-class CrushMap:
+class CrushMap(Record):
     """A whole map. `devices` are names by id, `classes` classes by id; `file` is where it was read,
     `rounded` whether its weights have three decimals alone. `weight_sets` are by the id of a pool,
-    or -1."""
+    or -1. `algs` are the kinds of buckets that Ceph may make, by a bit each; straw2 is 1 << 5.
+    `class_names` are in the order in which they were made, and `shadow_ids` as shadows() has them,
+    while it is changed; `kept` is what lies below items."""
 
-    file: str
-    rounded: bool
-    tunables: dict
-    devices: dict
-    classes: dict
-    types: dict
-    buckets: dict
-    rules: dict
-    weight_sets: dict = dataclasses.field(default_factory=dict)
-    algs: int = 54  # the kinds of buckets that Ceph may make, by a bit each; straw2 is 1 << 5
-    class_names: list = dataclasses.field(default_factory=list)  # in the order in which they were made
-    shadow_ids: dict = dataclasses.field(default_factory=dict)  # as shadows() has them, while it is changed
-    kept: dict = dataclasses.field(default_factory=dict, repr=False, compare=False)  # what lies below items
+    def __init__(
+        self, file, rounded, tunables, devices, classes, types, buckets, rules, weight_sets=None,
+        algs=54, class_names=None, shadow_ids=None,
+    ):  # fmt: skip
+        self.file, self.rounded, self.tunables, self.devices, self.classes = file, rounded, tunables, devices, classes
+        self.types, self.buckets, self.rules = types, buckets, rules
+        self.weight_sets, self.algs, self.kept = {} if weight_sets is None else weight_sets, algs, {}
+        self.class_names = [] if class_names is None else class_names
+        self.shadow_ids = {} if shadow_ids is None else shadow_ids
 
     def name_of(self, item):
         if item in self.buckets:

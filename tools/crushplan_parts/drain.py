@@ -7,6 +7,7 @@ from .names import Chosen, names_in
 from .output import Answer, sized
 from .reports import (
     Stay,
+    check_type,
     groups_rows,
     groups_table,
     pools_table,
@@ -19,6 +20,7 @@ from .reports import (
     warn_of_flags,
     warn_of_room,
 )
+from .service import Later
 from .stages import Stages, states_after
 from .summary import Summary
 
@@ -27,16 +29,26 @@ def drain(plan, asked):
     """Answers what a drain does: the reweights of devices become 0."""
     chosen = Chosen(plan, names_in(asked, "drain"), asked.of_class)
     devices = chosen.devices
-    later = AfterDrain(plan, devices)
     drained = states_after(plan, devices, reweight=0)
+    making = Later(lambda: AfterDrain(plan, devices))
 
     def drain_then_purge():
         start = Start(plan, devices)
         stages = Stages(plan, start.touched)
-        lists = stages.set_states([drained], start.wanted(devices))
-        return start, lists, later.ask_purge(stages)
+        lists, later = stages.set_states([drained], start.wanted(devices)), making.result()
+        return start, lists, None if later.is_plain() else later.ask_purge(stages)
 
-    (start, (before, after), purge), (first, second) = plan.side_by_side(drain_then_purge, later.ask_weight_first)
+    def purge_meanwhile():
+        later = making.result()
+        stages = Stages(plan, later.pools)
+        stages.changed.update(drained)
+        return later.ask_purge(stages) if later.is_plain() else None
+
+    (start, (before, after), purge), (first, second), meanwhile = plan.side_by_side(
+        drain_then_purge, lambda: making.result().ask_weight_first(), purge_meanwhile
+    )
+    later = making.result()
+    purge = meanwhile if later.is_plain() else purge
     changes = pool_changes(plan, start, devices, before, after)
     later.take(changes, purge, first, second)
     summary, stay = Summary(plan, changes, devices), Stay(plan, start, devices, changes)
@@ -50,15 +62,15 @@ def drain(plan, asked):
                          "past_backfillfull": [it for it, _ in later.too_full],
                          "then_purge": later.then_purge and later.then_purge.said(asked.groups)},
     }  # fmt: skip
-    blocks = [
+    check_type(plan, summary, asked.by)
+    blocks = lambda: [
         chosen.text(),
         summary_table(plan, summary, stay),
         pools_table(summary),
         usage_table(plan, summary, asked.by),
         purge_text(later, devices) if plan.pools else None,
+        groups_table(summary.moves) if asked.groups else None,
     ]
-    if asked.groups:
-        blocks.append(groups_table(summary.moves))
     rows = groups_rows(plan, summary.moves) if asked.groups else usage_rows(summary)
     drawing = lambda: of_devices(plan, summary.devices, asked.by)
     answer = Answer(status, verdict(summary, stay, status), fields, blocks, rows, drawing)

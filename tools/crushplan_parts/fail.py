@@ -7,6 +7,7 @@ from .output import Answer, Progress, Sized, Table, devices_text, shown, sized
 from .reports import (
     COPY,
     Stay,
+    check_type,
     groups_rows,
     groups_table,
     listed,
@@ -202,7 +203,8 @@ def fail(plan, asked):
         "out": it.summary.said(asked.groups),
         "stay": stay.said(),
     }
-    blocks = [
+    check_type(plan, it.summary, asked.by)
+    blocks = lambda: [
         chosen.text(),
         it.down.table(it.summary.groups) if plan.pools else None,
         it.down.pools_table(),
@@ -210,9 +212,8 @@ def fail(plan, asked):
         summary_table(plan, it.summary, stay, "Once they are out:", devices),
         pools_table(it.summary),
         usage_table(plan, it.summary, asked.by),
+        *([it.down.groups_table(), groups_table(it.summary.moves)] if asked.groups else []),
     ]
-    if asked.groups:
-        blocks += [it.down.groups_table(), groups_table(it.summary.moves)]
     rows = rows_of(plan, it) if asked.groups else usage_rows(it.summary)
     sentence = verdict(it.summary, stay, status, it.down.why(), stretched)
     answer = Answer(status, sentence, fields, blocks, rows, lambda: of_devices(plan, it.summary.devices, asked.by))

@@ -72,7 +72,8 @@ class Node:
         return value
 
     def has(self, name):
-        return name in self.of_kind(dict)
+        value = self.value
+        return name in (value if type(value) is dict else self.of_kind(dict))
 
     def at(self, name):
         """Returns the member of a name."""
@@ -85,6 +86,8 @@ class Node:
         value = self.value.get(name) if type(self.value) is dict else None
         if type(value) is kind and kind is not decimal.Decimal:
             return value
+        if kind is decimal.Decimal and type(value) is int:
+            return decimal.Decimal(value)
         if default is not REQUIRED and not self.has(name):
             return default
         return self.at(name).of_kind(kind)
@@ -103,6 +106,13 @@ class Node:
         inner = self.at(name)
         for place, value in enumerate(inner.of_kind(list)):
             yield Node(value, place, inner)
+
+    def texts(self, name):
+        """Returns the texts of a list that is a member; none where it is missing."""
+        value = self.value.get(name) if type(self.value) is dict else None
+        if type(value) is list and all([type(it) is str for it in value]):
+            return value
+        return [it.of_kind(str) for it in self.each(name, ())]
 
     def flag(self, name, default):
         """Returns whether a member is true or 1."""

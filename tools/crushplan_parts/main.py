@@ -1,5 +1,6 @@
 """The program from its arguments to its exit status."""
 import argparse
+import gc
 import importlib
 import json
 import os
@@ -9,9 +10,12 @@ import sys
 from . import arguments
 from .faults import Fault
 from .service import Script, found_program
+from .waiting import waiting
 
 FAILED = UNKNOWN = 2
 INTERRUPTED = 130
+AGAIN = ("check", "drain", "fail", "usage")  # commands that can be done twice: they read nothing but the folder
+YOUNG = 200_000  # objects that are made before those that refer to each other in a circle are looked for
 
 
 def client_of(asked, beside):
@@ -44,22 +48,17 @@ def answered(asked, beside):
     # of the commands that one alone is read which is asked for
     command = getattr(importlib.import_module(f".{asked.command}", __package__), asked.command)
     from .output import written
-    from .waiting import waiting
 
     with waiting:
         if asked.command == "fetch":
-            answer, plan, client = command(asked), None, None
+            answer, plan = command(asked), None
         else:
-            from .cluster import read_cluster
-            from .placing import Plan
+            from .placing import MapRefused
 
-            waiting.at(f"reading {asked.folder}")
-            cluster, client = read_cluster(asked.folder, asked), client_of(asked, beside)
             try:
-                plan = Plan(cluster, client)
-                answer = doubted(command(plan, asked), plan.doubt)
-            finally:
-                client.end()
+                answer, plan = found_by(command, asked, beside, asked.command in AGAIN)
+            except MapRefused:
+                answer, plan = found_by(command, asked, beside, False)
         if getattr(asked, "html", None):
             from .page import write_page
 
@@ -68,6 +67,27 @@ def answered(asked, beside):
         text = written(answer, asked.command, asked.form, plan)
     write_out(text)
     return answer.status
+
+
+def found_by(command, asked, beside, is_hopeful):
+    """Returns what a command answers, and the plan that it asked; MapRefused where that hoped in
+    vain that crushcalc takes the whole map."""
+    from .cluster import read_cluster
+    from .placing import Plan
+
+    waiting.at(f"reading {asked.folder}")
+    cluster, client = read_cluster(asked.folder, asked), client_of(asked, beside)
+    try:
+        plan = Plan(cluster, client, is_hopeful and isinstance(client, Script))
+        try:
+            answer = command(plan, asked)
+        except Exception:
+            plan.confirm()
+            raise
+        plan.confirm()
+        return doubted(answer, plan.doubt), plan
+    finally:
+        client.end()
 
 
 def write_out(text):
@@ -157,10 +177,12 @@ def terminated(*_):
 def main(words, beside):
     """Does what the arguments ask. `beside` are the places where crushcalc may be."""
     signal.signal(signal.SIGTERM, terminated)
+    # what is read stays until the end: to look at it for what isn't needed any more is in vain
+    gc.set_threshold(YOUNG, 20, 20)
     open_streams()
     asked = argparse.Namespace(command=None)
     try:
-        parser = arguments.parser()
+        parser = arguments.parser(words)
         asked = arguments.parsed(parser, words)
         if asked.version:
             said_version(beside)

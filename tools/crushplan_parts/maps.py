@@ -1,54 +1,42 @@
 """What Ceph's monitors hold and commands change: the CRUSH map, OSDs, pools, upmap items, flags."""
 import copy
-import dataclasses
-import typing
 
 from .cluster import OSD_DUMP, State
 from .crush_map import ONE
 from .fields import opened
+from .record import Record
 from .wrapper import copied
 
 CLEAN_FLAGS = {"pauserd", "pausewr"}  # which 'ceph osd set pause' means
 
 
-@dataclasses.dataclass
-class Osd:
+class Osd(Record):
     """An OSD that exists. Weights are reweights in 65536ths; `old` is the one that 'osd in' gives
-    it back, or 0. `runs` is whether its process runs: one that is only marked down comes back."""
+    it back, or 0. `runs` is whether its process runs: one that is only marked down comes back.
+    `went_out` is whether it did by itself, so that it comes in by itself too (autoout)."""
 
-    reweight: int = ONE
-    up: bool = True
-    old: int = 0
-    affinity: int = ONE
-    runs: bool = True
-    destroyed: bool = False
-    went_out: bool = False  # by itself, so that it comes in by itself too (autoout)
+    def __init__(self, reweight=ONE, up=True, old=0, affinity=ONE, runs=True):
+        self.reweight, self.up, self.old, self.affinity, self.runs = reweight, up, old, affinity, runs
+        self.destroyed, self.went_out = False, False
 
 
-@dataclasses.dataclass
 class Maps:
     """All that commands act on. `crush` is a map that may be changed; pairs, lists and primaries
-    are by pool and group. `profiles` are those of erasure codes, by name."""
+    are by pool and group. `profiles` are those of erasure codes, by name; `gone` reweights of OSDs
+    that don't exist any more; `folders` where files of the runbook may be; `oldest_client` what the
+    monitors let in."""
 
-    crush: object
-    osds: dict
-    pools: dict
-    pairs: dict
-    lists: dict
-    primaries: dict
-    flags: set
-    profiles: dict
-    gone: dict = dataclasses.field(default_factory=dict)  # reweights of OSDs that don't exist any more
-    folders: tuple = ()  # where files of the runbook may be
-    release: typing.Optional[str] = None
-    oldest_client: str = "luminous"  # that the monitors let in
+    def __init__(self, crush, osds, pools, pairs, lists, primaries, flags):
+        self.crush, self.osds, self.pools, self.flags = crush, osds, pools, flags
+        self.pairs, self.lists, self.primaries = pairs, lists, primaries
+        self.profiles, self.gone, self.folders, self.release, self.oldest_client = {}, {}, (), None, "luminous"
 
     def copied(self):
         """Returns the same, to be changed."""
         found = copy.copy(self)
         found.crush = copied(self.crush)
-        found.osds = {id_: dataclasses.replace(it) for id_, it in self.osds.items()}
-        found.pools = {id_: dataclasses.replace(it) for id_, it in self.pools.items()}
+        found.osds = {id_: it.replaced() for id_, it in self.osds.items()}
+        found.pools = {id_: it.replaced() for id_, it in self.pools.items()}
         for name in ("pairs", "lists", "primaries"):
             setattr(found, name, {pool: dict(own) for pool, own in getattr(self, name).items()})
         found.flags, found.gone = set(self.flags), dict(self.gone)
@@ -86,7 +74,6 @@ def maps_of(cluster):
         cluster.lists,
         cluster.primaries,
         set(it for it in cluster.flags if it),
-        {},
     ).copied()
     if cluster.described:
         found.osds = {id_: Osd() for id_ in cluster.map.devices}
@@ -116,8 +103,7 @@ def cluster_of(maps, cluster):
     affinity = {id_: it.affinity for id_, it in maps.osds.items() if it.affinity != ONE}
     crush = copy.copy(maps.crush)
     crush.kept = {}
-    return dataclasses.replace(
-        cluster,
+    return cluster.replaced(
         map=crush,
         pools=maps.pools,
         states=maps.states(),

@@ -16,14 +16,25 @@ NARROW = 20  # of a last column whose words go on in further lines
 
 class Answer:
     """What a command found: its status, one sentence, the fields of its JSON, blocks of text for
-    people, and the rows of its CSV with their heads first. The fields may be a function that
-    returns them; `drawing` is one that returns what is drawn of it (drawing.py), or None; `plain`
-    one that returns the whole text for people in the place of sentence and blocks, or None."""
+    people, and the rows of its CSV with their heads first. The fields and the blocks may be
+    functions that return them; `drawing` is one that returns what is drawn of it (drawing.py), or
+    None; `plain` one that returns the whole text for people in the place of sentence and blocks, or
+    None."""
 
     def __init__(self, status, sentence, fields, blocks, rows, drawing=None):
         self.status, self.sentence, self.fields = status, sentence, fields
-        self.blocks, self.rows, self.drawing, self.plain = blocks, rows, drawing, None
+        self.shown, self.rows, self.drawing, self.plain = blocks, rows, drawing, None
         self.pools = self.bytes_of = None  # ids of the pools that it is of, and of whose bytes; or all
+
+    @property
+    def blocks(self):
+        if callable(self.shown):
+            self.shown = self.shown()
+        return self.shown
+
+    def add(self, block):
+        """Adds a block behind the others."""
+        self.shown = [*self.blocks, block]
 
     def of(self, pools, bytes_of=None):
         """Says which pools it is of, and returns itself: by that notes are left out."""

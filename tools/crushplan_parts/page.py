@@ -68,7 +68,7 @@ pre { margin: 0; white-space: pre-wrap; font: .875rem/1.5 ui-monospace, "DejaVu 
 def write_page(path, answer, asked, plan):
     """Writes an answer as a page into a file, whole or not at all, and says so in the answer."""
     write_whole(path, page_text(answer, asked, plan).encode("utf-8", "replace"))
-    answer.blocks = [*answer.blocks, f"{path} is this as a page."]
+    answer.add(f"{path} is this as a page.")
 
 
 def write_whole(path, data, option="--html"):

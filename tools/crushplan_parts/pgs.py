@@ -134,7 +134,9 @@ def by_device(plan, usages):
         return []
     found = []
     for device, room in sorted(plan.cluster.rooms.items()):
+        if room.groups is None:
+            continue
         here = sum(it.entries.get(device, 0) for it in usages.values())
-        if room.groups is not None and room.groups != here and plan.state(device).up:
+        if room.groups != here and plan.state(device).up:
             found.append(f"osd.{device} has {counted(room.groups, 'group')} by {OSD_DF}, and {here:,} as computed")
     return found

@@ -2,10 +2,11 @@
 move, how much lies on each device."""
 from .cluster import State
 from .computable import MOST_POOLS, pool_fault, sets_in_use
+from .crush_map import ONE
 from .faults import Fault, counted, some
 from .pgs import Compared, doubt_by_usage
 from .run import Run
-from .service import at_once, change, side_by_side
+from .service import Later, at_once, change, side_by_side
 from .settled import Exceptions, led
 from .texts import Texts
 from .tree import Tree
@@ -13,6 +14,10 @@ from .upmap_rules import Keeper
 
 MOST_FAULTS = 200  # declarations that are left out of a map, one after the other
 MOST_NAMES = 4  # of devices in a note
+
+
+class MapRefused(Exception):
+    """A plan's map is refused, in which a part has to be left out."""
 
 
 class Note:
@@ -43,12 +48,13 @@ class Note:
 class Plan:
     """A cluster with what of it is computed. `pools` are the computed ones, by id; `texts` those of
     its map; `known` the devices that they declare; `doubt` says why no answer holds, where the
-    cluster itself says otherwise, or is None."""
+    cluster itself says otherwise, or is None. With `is_hopeful` it goes on while crushcalc reads
+    the map: where this refuses a part of it, whatever is asked of the plan ends by MapRefused."""
 
-    def __init__(self, cluster, client):
+    def __init__(self, cluster, client, is_hopeful=False):
         self.cluster, self.client, self.map, self.tree = cluster, client, cluster.map, Tree(cluster.map)
         self.notes, self.pools, self.left_out, self.sets, self.shares, self.doubt = [], {}, {}, {}, {}, None
-        self.in_buckets, self.by_exception = None, {}
+        self.in_buckets, self.odd_states, self.by_exception = None, None, {}
         for pool in cluster.pools.values():
             why = pool_fault(self.map, pool, cluster.described)
             if why:
@@ -56,7 +62,12 @@ class Plan:
             else:
                 self.pools[pool.id] = pool
         self.more_pools()
-        self.texts = self.accepted(self.map, self.pools, self.leave_out)
+        self.unread = None  # the map as long as it isn't known whether it is refused
+        if is_hopeful and self.pools:
+            self.texts = self.written(self.map, self.pools)
+            self.unread = Later(lambda: self.imported(self.texts))
+        else:
+            self.texts = self.accepted(self.map, self.pools, self.leave_out)
         self.known = self.texts.devices()
         self.pairs = {pool: self.known_pairs(self.pools[pool]) for pool in self.pools}
         self.exceptions = Exceptions(cluster.lists, cluster.primaries, cluster.affinity)
@@ -102,7 +113,7 @@ class Plan:
             texts = self.written(map_, pools)
             if not pools:
                 return texts
-            replies = at_once(self.client, [[change("/maps", text=it.text())] for it in texts.all])
+            replies = self.imported(texts)
             refused = next(((text, said) for text, ((status, said),) in zip(texts.all, replies) if status != 201), None)
             if refused is None:
                 return texts
@@ -121,6 +132,18 @@ class Plan:
                 )
                 pools.pop(pool.id, None)
         raise Fault(f"{map_.file}: crushcalc refuses more than {MOST_FAULTS} declarations of it")
+
+    def imported(self, texts):
+        """Returns the replies to texts of a map."""
+        return at_once(self.client, [[change("/maps", text=it.text())] for it in texts.all])
+
+    def confirm(self):
+        """Waits until the map is read; MapRefused where a part of it is refused."""
+        unread = self.unread
+        if unread is not None:
+            if any(status != 201 for ((status, _),) in unread.result()):
+                raise MapRefused
+            self.unread = None
 
     def written(self, map_, pools):
         """Returns the texts of a map for pools: with the devices that have states, or that the
@@ -263,6 +286,14 @@ class Plan:
         """Returns the state of a device as the files have it."""
         return self.cluster.states.get(device) or (State() if self.cluster.described else State(0, False))
 
+    def own_states(self):
+        """Returns the states of devices that aren't in and up, or that are reweighted: all others
+        are so from the beginning of a run."""
+        if self.odd_states is None:
+            states = {it: self.state(it) for it in self.known}
+            self.odd_states = {id_: it for id_, it in states.items() if it.reweight != ONE or not it.up}
+        return self.odd_states
+
     def placed(self):
         """Returns the devices that stand in some bucket, and that a text declares."""
         if self.in_buckets is None:
@@ -348,6 +379,12 @@ class Plan:
     def answer(self, *runs):
         """Has runs answered, side by side where that can be."""
         sides = [(run, side) for run in runs for side in run.sides]
-        for (run, side), replies in zip(sides, at_once(self.client, [side.requests for _, side in sides])):
+        try:
+            found = at_once(self.client, [side.requests for _, side in sides])
+        except Exception:
+            self.confirm()
+            raise
+        self.confirm()
+        for (run, side), replies in zip(sides, found):
             run.take(side, replies)
         return runs

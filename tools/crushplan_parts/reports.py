@@ -226,6 +226,12 @@ def pools_table(summary):
     return Table(heads, rows, "By pool:")
 
 
+def check_type(plan, summary, by):
+    """A Fault where a table of usage is asked for by a type that isn't there."""
+    if summary.changes and by:
+        plan.tree.type_number(by)
+
+
 def usage_table(plan, summary, by):
     """Returns usage before and after, by device, or by the buckets of a type, or None where no pool
     is computed."""
@@ -295,7 +301,7 @@ def sum_fractions(values):
 
 def usage_rows(summary):
     """Yields the rows of a CSV of usage before and after."""
-    said = [summary.device_said(it) for it in summary.devices]
+    said = summary.devices_said()
     heads = list(said[0]) if said else ["device"]
     yield heads
     for it in said:

@@ -1,5 +1,7 @@
 """Requests on tenants that have the cluster, and the replies to them."""
-from .cluster import State
+import collections
+import itertools
+
 from .service import Groups, change, get, refused
 
 MOST_PAIRS, MOST_CHANGES = 1024, 1024
@@ -50,7 +52,7 @@ class Run:
             self.side_of[id_] = sides[texts]
         self.sides = list(sides.values())
         self.import_map()
-        self.set_states({id_: plan.state(id_) for id_ in plan.known if plan.state(id_) != State()}, False)
+        self.set_states(plan.own_states(), False)
         for id_ in self.pools:
             pool = plan.cluster.pools[id_]
             fields = {it: getattr(pool, it) for it in ("kind", "size", "rule", "pg_num", "pgp_num", "hashpspool")}
@@ -218,12 +220,12 @@ class Usage:
 
 def count(entries, primaries, placements, sign):
     """Adds the entries and the primaries of placements, or takes them away."""
-    for it in placements:
-        for device in it.up:
+    placements = list(placements)
+    lists = itertools.chain.from_iterable([it.up for it in placements])
+    for counts, own in ((entries, lists), (primaries, [it.primary for it in placements])):
+        for device, count_ in collections.Counter(own).items():
             if device is not None:
-                entries[device] = entries.get(device, 0) + sign
-        if it.primary is not None:
-            primaries[it.primary] = primaries.get(it.primary, 0) + sign
+                counts[device] = counts.get(device, 0) + sign * count_
 
 
 def parts_of(pairs):

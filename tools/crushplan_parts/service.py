@@ -5,7 +5,6 @@ import os
 import pathlib
 import re
 import subprocess
-import tempfile
 import threading
 
 from .faults import NoAnswer
@@ -62,11 +61,17 @@ def numbered(requests):
     for place, it in enumerate(requests):
         if isinstance(it, Groups):
             yield from ((it.method, f"{it.path}{group}", None) for group in it.groups)
-            continue
-        body = it.body
-        if body is not None and it.path != "/test" and not it.path.endswith("/locate"):
-            body = {"request": f"r{place}", **body}
-        yield it.method, it.path, None if body is None else compact(body)
+        else:
+            yield it.method, it.path, sent(place, it)
+
+
+def sent(place, request):
+    """Returns the body of a request, with a number of its own where it changes something, or
+    None."""
+    body = request.body
+    if body is not None and request.path != "/test" and not request.path.endswith("/locate"):
+        body = {"request": f"r{place}", **body}
+    return None if body is None else compact(body)
 
 
 def read(status, body, where):
@@ -111,14 +116,13 @@ def placements_in(lines):
     memory."""
     found = []
     for start in range(0, len(lines), MOST_READ):
-        part = lines[start : start + MOST_READ]
-        if not all(it.startswith(b"200 {") for it in part):
+        part = b"\n" + b"\n".join(lines[start : start + MOST_READ])
+        if part.count(b"\n200 {") != part.count(b"\n"):
             return None
         try:
-            said = json.loads(b"[" + b",".join([it[4:] for it in part]) + b"]")
-            found += [
-                Placement(it["raw"], it["raw"] if it["raw"] == it["up"] else it["up"], it["primary"]) for it in said
-            ]
+            for it in json.loads("[" + part[5:].decode().replace("\n200 ", ",") + "]"):
+                raw, up = it["raw"], it["up"]
+                found.append(Placement(raw, raw if raw == up else up, it["primary"]))
         except (ValueError, KeyError, TypeError):
             return None
     return found if len(found) == len(lines) else None
@@ -127,7 +131,11 @@ def placements_in(lines):
 def unnamed_file():
     """Returns a file without a name, in memory where the system has that. A program writes each
     line by itself, and would wake the reader of a pipe for each."""
-    return os.fdopen(os.memfd_create("crushplan"), "w+b") if hasattr(os, "memfd_create") else tempfile.TemporaryFile()
+    if hasattr(os, "memfd_create"):
+        return os.fdopen(os.memfd_create("crushplan"), "w+b")
+    import tempfile  # takes a while to read
+
+    return tempfile.TemporaryFile()
 
 
 class Script:
@@ -158,13 +166,14 @@ class Script:
 
     def run(self, requests):
         """Answers requests on a new tenant, in order."""
-        lines = [
-            "PUT /t/plan",
-            *(
-                f"{method} /t/plan{path} {body}" if body else f"{method} /t/plan{path}"
-                for method, path, body in numbered(requests)
-            ),
-        ]
+        lines = ["PUT /t/plan"]
+        for place, it in enumerate(requests):
+            if isinstance(it, Groups):
+                start = f"{it.method} /t/plan{it.path}"
+                lines += [f"{start}{group}" for group in it.groups]
+            else:
+                body = sent(place, it)
+                lines.append(f"{it.method} /t/plan{it.path}" + (f" {body}" if body else ""))
         return self.read(requests, self.play("\n".join(lines).encode() + b"\n").splitlines())
 
     def play(self, text):
@@ -291,6 +300,28 @@ def side_by_side(client, works):
     if faults:
         raise faults[0]
     return found
+
+
+class Later(threading.Thread):
+    """Does a work, a function without arguments, while the program goes on."""
+
+    def __init__(self, work):
+        super().__init__(daemon=True)
+        self.work, self.found, self.fault = work, None, None
+        self.start()
+
+    def run(self):
+        try:
+            self.found = self.work()
+        except BaseException as error:  # it is raised again by whoever asks for the result
+            self.fault = error
+
+    def result(self):
+        """Waits for the end of the work, and returns what it returned."""
+        self.join()
+        if self.fault is not None:
+            raise self.fault
+        return self.found
 
 
 def at_once(client, runs):

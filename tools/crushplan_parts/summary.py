@@ -33,14 +33,12 @@ def bytes_anew(change, written):
 def gains(pool, moves):
     """Returns of each device how many copies it gains by moves, groups with their up lists before
     and after; those of a group with twice the objects count twice."""
-    found, (_, twice) = {}, pool.parts()
-    for group, old, new in moves:
-        count = 2 if group in twice else 1
-        for device in old:
-            found[device] = found.get(device, 0) - count
-        for device in new:
-            found[device] = found.get(device, 0) + count
-    return collections.Counter(found)
+    _, twice = pool.parts()
+    if twice:
+        moves = [*moves, *(it for it in moves if it[0] in twice)]
+    found = collections.Counter(itertools.chain.from_iterable([new for _, _, new in moves]))
+    found.subtract(collections.Counter(itertools.chain.from_iterable([old for _, old, _ in moves])))
+    return found
 
 
 class Moved:
@@ -122,8 +120,8 @@ class Device:
 
     expected_before = property(lambda self: self.change.expected_before.of(self.id))
     expected_after = property(lambda self: self.change.expected_after.of(self.id))
-    primaries_before = property(lambda self: sum(it.before.primaries.get(self.id, 0) for it in self.change.changes))
-    primaries_after = property(lambda self: sum(it.after.primaries.get(self.id, 0) for it in self.change.changes))
+    primaries_before = property(lambda self: self.change.primaries("before", self.id))
+    primaries_after = property(lambda self: self.change.primaries("after", self.id))
     bytes_before = property(
         lambda self: self.change.bytes.of([it.before.entries.get(self.id, 0) for it in self.change.changes])
     )
@@ -234,21 +232,28 @@ class Summary:
             "fullest": self.fullest and self.device_said(self.fullest), "as_full": [it.id for it in self.as_full],
             "past_nearfull": [it.id for it in self.past["nearfull_ratio"]],
             "past_backfillfull": [it.id for it in self.past["backfillfull_ratio"]],
-            "pools": [it.said() for it in self.changes], "usage": [self.device_said(it) for it in self.devices],
+            "pools": [it.said() for it in self.changes], "usage": self.devices_said(),
         }  # fmt: skip
         if with_groups:
             found["groups"] = [it.said() for it in self.moves]
         return found
 
+    def devices_said(self):
+        """Returns what is said of all devices."""
+        if self.devices:
+            self.devices[0].change.gather()
+        return [self.device_said(it) for it in self.devices]
+
     def device_said(self, it):
+        before, after, shared, room = it.expected_before, it.expected_after, it.change, it.room
         return {
             "device": it.id, "name": self.plan.map.name_of(it.id), "host": self.plan.tree.host(it.id),
             "copies_before": it.before, "copies_after": it.after,
-            "share_before": rounded(*it.expected_before, 2), "share_after": rounded(*it.expected_after, 2),
-            "percent_after": it.percent(),
+            "share_before": rounded(*before, 2), "share_after": rounded(*after, 2),
+            "percent_after": percent(it.after, after),
             "primaries_before": it.primaries_before, "primaries_after": it.primaries_after,
-            "bytes_before": whole(it.bytes_before), "bytes_after": whole(it.bytes_after),
-            "used_before": ratio_said(it.used_before), "used_after": ratio_said(it.used_after),
+            "bytes_before": shared.whole_bytes("before", it.id), "bytes_after": shared.whole_bytes("after", it.id),
+            "used_before": room and rounded(room[0], room[2], 4), "used_after": room and rounded(room[1], room[2], 4),
         }  # fmt: skip
 
 
@@ -337,7 +342,7 @@ class Shared:
     and after, and the bytes of copies."""
 
     def __init__(self, plan, changes, gone, with_before):
-        self.changes, self.bytes = changes, Bytes(changes)
+        self.changes, self.bytes, self.gathered = changes, Bytes(changes), {}
         self.expected_before, self.expected_after, own = Expected(), Expected(), {}
         for change in changes:
             shares, key = shares_of(plan, change.pool), (change.pool.rule, change.pool.size)
@@ -352,6 +357,34 @@ class Shared:
         if len(entries) == 1:
             return [entries[0].get(it, 0) for it in devices]
         return [sum([own.get(it, 0) for own in entries]) for it in devices]
+
+    def gather(self):
+        """Adds up what all devices have over all pools: it takes less than to do so for each."""
+        for which in ("before", "after"):
+            leading, amounts = collections.Counter(), {}
+            for it in self.changes:
+                leading.update(getattr(it, which).primaries)
+            for it, each in zip(self.changes, self.bytes.each):
+                for device, count in getattr(it, which).entries.items():
+                    amounts[device] = amounts.get(device, 0) + count * each
+            self.gathered[which] = leading, amounts
+
+    def primaries(self, which, device):
+        """Returns of how many groups a device is the primary, before or after."""
+        if which in self.gathered:
+            return self.gathered[which][0].get(device, 0)
+        return sum([getattr(it, which).primaries.get(device, 0) for it in self.changes])
+
+    def whole_bytes(self, which, device):
+        """Returns the bytes of a device's copies, before or after, rounded as whole() does."""
+        if not self.bytes.is_known:
+            return None
+        if which in self.gathered:
+            amount = self.gathered[which][1].get(device, 0)
+        else:
+            counts = [getattr(it, which).entries.get(device, 0) for it in self.changes]
+            amount = sum([count * each for count, each in zip(counts, self.bytes.each)])
+        return (2 * amount + self.bytes.measure) // (2 * self.bytes.measure)
 
     def gained(self):
         """Returns the bytes that devices gain, by the measure of bytes."""

@@ -1,7 +1,6 @@
 """What a command is at and for how long, on standard error, once it takes longer than two seconds;
 nothing where that is no terminal."""
 import os
-import shutil
 import sys
 import threading
 import time
@@ -50,6 +49,8 @@ class Waiting:
         return f"crushcalc has answered {self.answered:,} of {self.asked:,} requests"
 
     def write(self, text):
+        import shutil  # takes a while to read, and is seldom needed
+
         text = text.encode("ascii", "replace").decode()[: max(shutil.get_terminal_size().columns - 1, 1)]
         sys.stderr.write(f"{BEGIN}{text}{CLEAR}")
         sys.stderr.flush()

@@ -18,6 +18,11 @@ def exact(weight):
     return text if "." in text else text + ".0"
 
 
+@functools.lru_cache(maxsize=1 << 16)
+def is_name(name):
+    return NAME.fullmatch(name) is not None and name not in KEYWORDS
+
+
 class Names:
     """Names that a text can have, each once: those of the map where they are such names."""
 
@@ -25,7 +30,7 @@ class Names:
         self.taken = set()
 
     def give(self, name, other):
-        if not NAME.fullmatch(name) or name in self.taken or name in KEYWORDS:
+        if name in self.taken or not is_name(name):
             name = other
             while name in self.taken:
                 name += "-"
@@ -81,17 +86,18 @@ class Text:
             self.lines.append(f"tunable {name} {value}")
 
     def write_devices(self, known):
+        names, classes = self.map.devices, self.map.classes if self.with_classes else {}
         devices = {
-            **{id_: self.map.devices.get(id_, f"osd.{id_}") for id_ in known},
+            **{id_: names[id_] if id_ in names else f"osd.{id_}" for id_ in known},
             **{id_: f"hole.{id_}" for id_ in self.filled.values()},
         }
-        for id_, name in sorted(devices.items()):
-            self.items[id_] = self.names.give(name, f"device-{id_}")
-            self.declare(("device", id_))
-            class_ = self.map.classes.get(id_)
+        ids, first = sorted(devices), len(self.lines) + 1
+        self.declared += [(line, ("device", id_)) for line, id_ in enumerate(ids, first)]
+        for id_ in ids:
+            name = self.items[id_] = self.names.give(devices[id_], f"device-{id_}")
+            class_ = classes.get(id_)
             self.lines.append(
-                f"device {id_} {self.items[id_]}"
-                + (f" class {class_}" if class_ and self.with_classes and NAME.fullmatch(class_) else "")
+                f"device {id_} {name} class {class_}" if class_ and NAME.fullmatch(class_) else f"device {id_} {name}"
             )
 
     def write_types(self):
