@@ -2,6 +2,7 @@
 requests."""
 import pathlib
 import resource
+import signal
 import socket
 import subprocess
 import threading
@@ -10,7 +11,7 @@ import time
 from program.hostile_cases import BODIES, BODY_LIMIT, HEADS, exceptions
 from model.maps import with_devices
 from model.messages import EXISTS, TOO_LARGE, dropped, import_of, made, short, there
-from server.served import SECONDS, Server, asked, free_port, message, read_reply, replies_on, reset
+from server.served import SECONDS, Server, asked, free_port, message, read_reply, replies_on, reset, run_to_end
 
 HERE = pathlib.Path(__file__).resolve().parent
 
@@ -94,6 +95,21 @@ def two_replies_at_once(program, db):
                 return f"the replies are {found}"
     more = slow[apart] - slow[together]
     return None if more <= PAIRS // 2 else f"{slow[apart]} of {PAIRS} are slow, and {slow[together]} read at one time"
+
+
+def a_log_that_cannot_be_copied(program, db):
+    """The end copies the log into the file. Where nothing can be written by then the status and
+    standard error say so, and the next start has what was answered."""
+    with Server(
+        program, db, "--connections", "2", preexec_fn=lambda: signal.signal(signal.SIGXFSZ, signal.SIG_IGN)
+    ) as server:
+        why = unlike(asked(server, [b"PUT /t/a"]), [made(b"a")])
+        # from here on each write to a file fails; replies go to sockets
+        resource.prlimit(server.run.pid, resource.RLIMIT_FSIZE, (0, 0))
+        why = first(why, unlike(asked(server, [b"GET /t/a"]), [there(b"a")]))
+        why = first(why, unlike(server.ended(), (1, b"", b"crushcalc: store fault\n")))
+    later = run_to_end(program, "script", "--db", str(db), data=b"GET /t/a\n")
+    return first(why, unlike(later, (0, there(b"a") + b"\n", b"")))
 
 
 def examples(program, db):
@@ -304,6 +320,7 @@ def cases():
         two_messages,
         byte_by_byte,
         two_replies_at_once,
+        a_log_that_cannot_be_copied,
         examples,
         heads,
         bodies,
