@@ -5,6 +5,7 @@ import time
 
 from managed import INTERVAL, Wrong, equals, real
 
+SETTLED = 15  # seconds after which what OSDs use is looked at again
 # each command of the module, and the same words of crushplan
 COMMANDS = (
     ("check", {}, []),
@@ -175,10 +176,22 @@ def reweighted(it):
     it.await_foretold(False)
 
 
+def fullest(it):
+    """Returns which part of the fullest device would be used, whichever host fails, once it stays
+    so: for a while after it began, an OSD uses ever less."""
+    end, last = time.monotonic() + real.PATIENCE, None
+    while True:
+        rows = json.loads(it.run("fail", it.fetch(), "--each", "host", "--json")[1])["each"]
+        most = max(of["fullest"]["used_after"] for of in rows)
+        if most == last or time.monotonic() > end:
+            return most
+        last = most
+        time.sleep(SETTLED)
+
+
 def filled(it):
     """A device would be past the backfill-full ratio, until that is higher again."""
-    rows = json.loads(it.run("fail", it.fetch(), "--each", "host", "--json")[1])["each"]
-    most = max(of["fullest"]["used_after"] for of in rows)
+    most = fullest(it)
     for name in ("nearfull", "backfillfull"):
         it.cluster.told(f"osd set-{name}-ratio", ratio=round(most - 0.01, 3))
     found = it.await_foretold(True)
