@@ -25,6 +25,7 @@ from proxy import authorization  # noqa: E402
 
 CALLS = 20  # drawn at a time
 KEPT = 0.05  # of the drops that are drawn
+VERSIONS = 250  # of which a tenant's user imports no more: 256 may be there, which step() doesn't know
 PAUSE = 0.02  # seconds before a request is sent again
 NAME = "crushcalc.example.com"
 
@@ -84,12 +85,17 @@ class Writer:
         self.slowest = max(self.slowest, time.time() - start)
         self.live[name] = after
 
+    def is_full(self, line):
+        """Returns whether a line would import a map for a tenant with many of them."""
+        tenant = self.live.get(tenant_of(line))
+        return tenant is not None and line.split(b" ")[1].endswith(b"/maps") and len(tenant.versions) >= VERSIONS
+
     def run(self):
         count = 0
         while not (self.wrong or select.select([sys.stdin], [], [], 0)[0]):
             there = {it: tenant for it, tenant in self.live.items() if tenant is not None}
             for line in drawn_calls(self.drawn, self.names, CALLS, there, count):
-                if line.startswith(b"DELETE ") and self.drawn.random() > KEPT:
+                if line.startswith(b"DELETE ") and self.drawn.random() > KEPT or self.is_full(line):
                     continue
                 self.done(line)
                 if self.wrong:
