@@ -32,10 +32,10 @@ def placed(crush, reweights=(), **fields):
 def weighed(crush, weights):
     """The map with other weights of devices, and the sums above them, by hand."""
     found = copy.deepcopy(crush)
-    for bucket in found["buckets"][1:]:
-        for it in bucket["items"]:
+    for host in found["buckets"][1:]:
+        for it in host["items"]:
             it["weight"] = weights.get(it["id"], it["weight"])
-        bucket["weight"] = sum(it["weight"] for it in bucket["items"])
+        host["weight"] = sum(it["weight"] for it in host["items"])
     for it in found["buckets"][0]["items"]:
         it["weight"] = next(of["weight"] for of in found["buckets"] if of["id"] == it["id"])
     return found

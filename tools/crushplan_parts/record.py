@@ -1,5 +1,5 @@
-"""Classes whose members are fields by name. Python's dataclasses would do too, but read half of the
-library first, which takes longer than a small cluster."""
+"""Classes whose members are fields by name. Python's dataclasses would do too, but import much of
+its library first, which takes longer than reading a small cluster."""
 
 
 class Record:
