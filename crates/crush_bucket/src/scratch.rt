@@ -134,6 +134,14 @@ impl<'a> Scratch<'a> {
         })
     }
 
+    /// Returns the tables that the scratch is of.
+    #[inline]
+    pub fn tables(&self) -> &'a Tables
+        ensures { result.now ≡ self.now }
+    {
+        self.tables
+    }
+
     /// Picks the item of `bucket`, which has the number `number`.
     #[inline]
     pub(crate) fn pick(&mut self, bucket: &AnyBucket, number: usize, x: u32, r: u32) -> ItemId

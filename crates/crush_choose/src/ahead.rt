@@ -64,16 +64,15 @@ fn is_wanted(tables: &Tables, bucket: BucketNo, wanted: u32) -> bool {
 /// Picks ahead down from eight buckets, for eight inputs and an attempt. Returns the buckets of the
 /// type `wanted` that are reached. `None`: the walks part or end before.
 fn walk_ahead(
-    tables: &Tables,
     scratch: &mut Scratch,
     xs: &[u32; LANES],
     from: [BucketNo; LANES],
     r: u32,
     wanted: u32,
 ) -> Option<[BucketNo; LANES]>
-    requires { scratch.old ≡ scratch_of tables.now }
-    ensures { scratch.new ≡ scratch_of tables.now }
+    ensures { scratch.new ≡ scratch.old }
 {
+    let tables = scratch.tables();
     let mut at = from;
     'down: for _ in 0..DEPTH_LIMIT {
         let items = scratch.pick_ahead(at, xs, r)?;
@@ -95,16 +94,15 @@ fn walk_ahead(
 }
 
 /// Picks ahead what a choose step asks for below a bucket.
-fn choose_ahead(tables: &Tables, scratch: &mut Scratch, guess: &Guess, bucket: BucketNo)
-    requires { scratch.old ≡ scratch_of tables.now }
-    ensures { scratch.new ≡ scratch_of tables.now }
+fn choose_ahead(scratch: &mut Scratch, guess: &Guess, bucket: BucketNo)
+    ensures { scratch.new ≡ scratch.old }
 {
     for rep in 0..guess.reps.min(REP_LIMIT) {
         let from = [bucket; LANES];
-        let found = walk_ahead(tables, scratch, &guess.xs, from, rep, guess.wanted);
+        let found = walk_ahead(scratch, &guess.xs, from, rep, guess.wanted);
         if let Some(at) = found {
             if guess.leaf {
-                walk_ahead(tables, scratch, &guess.xs, at, guess.leaf_attempt(rep), 0);
+                walk_ahead(scratch, &guess.xs, at, guess.leaf_attempt(rep), 0);
             }
         }
     }
@@ -158,7 +156,7 @@ pub fn look_ahead(tables: &Tables, scratch: &mut Scratch, rule: &Rule, xs: [u32;
                         vary_r,
                         stable,
                     };
-                    choose_ahead(tables, scratch, &guess, bucket);
+                    choose_ahead(scratch, &guess, bucket);
                 }
                 from = None;
             }

@@ -3,8 +3,6 @@
 //! The question looks at the items of many buckets, so it is asked where tries have failed for as
 //! long as it takes. No answer depends on when it is asked, and no contract speaks of it.
 
-ghost use Rattle.std.specs.Prelude.{◌<◌, length};
-
 use crush_bucket::{BucketNo, Tables};
 
 /// What a pick counts, in items that the question looks at: a pick takes at least about as long as
@@ -43,9 +41,7 @@ impl Effort {
 
     /// Returns whether tries below a bucket have cost as much as the question, since the call had
     /// spent `since`.
-    pub(crate) fn is_due(&mut self, tables: &Tables, bucket: BucketNo, since: u64) -> bool
-        requires { bucket < length tables.now.buckets }
-    {
+    pub(crate) fn is_due(&mut self, tables: &Tables, bucket: BucketNo, since: u64) -> bool {
         let spent = self.spent.saturating_sub(since);
         if spent < LEAST {
             return false;
@@ -60,12 +56,10 @@ impl Effort {
 }
 
 /// Counts the items of the buckets up to a bucket, by number.
-fn price_of(tables: &Tables, bucket: BucketNo) -> u64
-    requires { bucket < length tables.now.buckets }
-{
+fn price_of(tables: &Tables, bucket: BucketNo) -> u64 {
     let mut items: u64 = 0;
-    for place in 0..bucket.place() {
+    for place in 0..bucket.place().saturating_add(1).min(tables.len()) {
         items = items.saturating_add(tables.size(BucketNo::new(place)) as u64);
     }
-    items.saturating_add(tables.size(bucket) as u64)
+    items
 }

@@ -5,6 +5,7 @@ ghost use Rattle.crush_bucket.specs.Tables.{scratch_of, bucket_numbered};
 ghost use Rattle.crush_choose.specs.Firstn as spec;
 ghost use Rattle.crush_choose.specs.Firstn.{IsFirstnCall, IsFirstnAnswer};
 ghost use Rattle.crush_choose.specs.Marks.{Marks, items_of, leaves_of};
+ghost use Rattle.crush_choose.specs.Private.Calls.{AreFirstnNumbers};
 ghost use Rattle.crush_choose.specs.Private.Decisions.{IsDecision, mark_in};
 ghost use Rattle.crush_choose.specs.Private.Reachable.{firstn_can_place};
 ghost use Rattle.crush_map.specs.declared.limits.TheConstants.{BUCKET_LIMIT, TRIES_LIMIT, COUNT_LIMIT};
@@ -72,12 +73,11 @@ enum Decision {
 /// A call of `choose_firstn`, with the items and leaves of the reps so far.
 #[derive(Clone, Copy)]
 struct Firstn<'a> {
-    tables: &'a Tables,
     weights: &'a Weights,
     call: &'a FirstnCall,
     items: &'a [Slot],
     leaves: &'a [Slot],
-    ghost in_range: { IsFirstnCall tables.now call.now },
+    ghost in_range: { AreFirstnNumbers call.now },
     ghost few: { length items.now ≤ call.now.room },
 }
 
@@ -92,11 +92,10 @@ impl<'a> Firstn<'a> {
         r: u32,
         effort: &mut Effort,
     ) -> Option<ItemId>
-        requires bucket { bucket < length self.now.tables.now.buckets }
-        requires fits { scratch.old ≡ scratch_of self.now.tables.now }
+        requires bucket { bucket < length scratch.old.buckets }
         requires low { r < 2 ^ 31 }
-        ensures value { let s = self.now in result ≡ spec.leaf_by s.tables.now s.weights.now s.call.now s.leaves.now bucket r }
-        ensures fits { scratch.new ≡ scratch_of self.now.tables.now }
+        ensures value { let s = self.now in result ≡ spec.leaf_by scratch.old s.weights.now s.call.now s.leaves.now bucket r }
+        ensures same { scratch.new ≡ scratch.old }
     {
         let x = self.call.x;
         let walk = Walk {
@@ -104,7 +103,7 @@ impl<'a> Firstn<'a> {
             wanted: 0,
             from: bucket,
         };
-        match reach_by(self.tables, scratch, walk, r, effort) {
+        match reach_by(scratch, walk, r, effort) {
             Reached::Found(item, _) => {
                 let is_new = is_device_in(self.weights, x, item) && !has(self.leaves, item);
                 is_new.then_some(item)
@@ -138,11 +137,10 @@ impl<'a> Firstn<'a> {
         start: u32,
         effort: &mut Effort,
     ) -> Option<ItemId>
-        requires bucket { bucket < length self.now.tables.now.buckets }
-        requires fits { scratch.old ≡ scratch_of self.now.tables.now }
+        requires bucket { bucket < length scratch.old.buckets }
         requires low { start < 2 ^ 17 }
-        ensures value { let s = self.now in result ≡ spec.leaf_below s.tables.now s.weights.now s.call.now s.leaves.now bucket start }
-        ensures fits { scratch.new ≡ scratch_of self.now.tables.now }
+        ensures value { let s = self.now in result ≡ spec.leaf_below scratch.old s.weights.now s.call.now s.leaves.now bucket start }
+        ensures same { scratch.new ≡ scratch.old }
     {
         a_pick_is_pickable();
         let since = effort.spent();
@@ -152,9 +150,10 @@ impl<'a> Firstn<'a> {
             if leaf.is_some() {
                 return leaf;
             }
-            if !asked && effort.is_due(self.tables, self.call.bucket, since) {
+            let tables = scratch.tables();
+            if !asked && effort.is_due(tables, self.call.bucket, since) {
                 asked = true;
-                if !can_have_leaf(self.tables, self.weights, self.call.x, self.leaves, bucket) {
+                if !can_have_leaf(tables, self.weights, self.call.x, self.leaves, bucket) {
                     return None;
                 }
             }
@@ -170,12 +169,11 @@ impl<'a> Firstn<'a> {
         r: u32,
         effort: &mut Effort,
     ) -> Option<ItemId>
-        requires fits { scratch.old ≡ scratch_of self.now.tables.now }
         requires low { r < 2 ^ 16 }
-        ensures value { let s = self.now in result ≡ spec.leaf_of s.tables.now s.weights.now s.call.now s.leaves.now (length s.items.now) item r (bucket_numbered s.tables.now item) }
-        ensures fits { scratch.new ≡ scratch_of self.now.tables.now }
+        ensures value { let s = self.now in result ≡ spec.leaf_of scratch.old s.weights.now s.call.now s.leaves.now (length s.items.now) item r (bucket_numbered scratch.old item) }
+        ensures same { scratch.new ≡ scratch.old }
     {
-        match self.tables.bucket_of(item) {
+        match scratch.tables().bucket_of(item) {
             None => is_device_in(self.weights, self.call.x, item).then_some(item),
             Some(_) if self.call.leaf_tries == 0 => Some(item),
             Some(bucket) => self.leaf_below(scratch, bucket, self.leaf_start(r), effort),
@@ -191,18 +189,18 @@ impl<'a> Firstn<'a> {
         round: u32,
         effort: &mut Effort,
     ) -> Option<Mark>
-        requires fits { scratch.old ≡ scratch_of self.now.tables.now }
+        requires from { self.now.call.now.bucket < length scratch.old.buckets }
         requires rep { rep ≤ COUNT_LIMIT }
         requires round { round ≤ TRIES_LIMIT }
-        ensures value { let s = self.now in result ≡ spec.firstn_try s.tables.now s.weights.now s.call.now s.items.now s.leaves.now rep round }
-        ensures fits { scratch.new ≡ scratch_of self.now.tables.now }
+        ensures value { let s = self.now in result ≡ spec.firstn_try scratch.old s.weights.now s.call.now s.items.now s.leaves.now rep round }
+        ensures same { scratch.new ≡ scratch.old }
     {
         let walk = Walk {
             x: self.call.x,
             wanted: self.call.wanted,
             from: self.call.bucket,
         };
-        let (item, r) = match reach_by(self.tables, scratch, walk, rep + round, effort) {
+        let (item, r) = match reach_by(scratch, walk, rep + round, effort) {
             Reached::Found(item, r) => (item, r),
             Reached::Empty => return None,
             Reached::Wrong => return Some(Mark::Skipped),
@@ -215,8 +213,9 @@ impl<'a> Firstn<'a> {
     }
 
     /// Returns whether a try of any rep can place an item.
-    fn can_place(&self) -> bool
-        ensures { let s = self.now in result ≡ (nat_le BUCKET_LIMIT s.call.now.bucket || firstn_can_place s.tables.now s.weights.now s.call.now s.items.now s.leaves.now) }
+    fn can_place(&self, tables: &Tables) -> bool
+        requires { self.now.call.now.bucket < length tables.now.buckets }
+        ensures { let s = self.now in result ≡ (nat_le BUCKET_LIMIT s.call.now.bucket || firstn_can_place tables.now s.weights.now s.call.now s.items.now s.leaves.now) }
     {
         let walk = Walk {
             x: self.call.x,
@@ -224,24 +223,17 @@ impl<'a> Firstn<'a> {
             from: self.call.bucket,
         };
         let leaf = self.call.leaf_tries > 0;
-        can_choose(
-            self.tables,
-            self.weights,
-            walk,
-            self.items,
-            leaf,
-            self.leaves,
-        )
+        can_choose(tables, self.weights, walk, self.items, leaf, self.leaves)
     }
 
     /// Decides a rep: its mark is that of its first try that doesn't fail. It gives up where no try
     /// can place an item.
     #[tactic(auto, unfolding(crate::specs::Firstn::decided))]
     fn decide(&self, scratch: &mut Scratch, rep: u32, effort: &mut Effort) -> Decision
-        requires fits { scratch.old ≡ scratch_of self.now.tables.now }
+        requires from { self.now.call.now.bucket < length scratch.old.buckets }
         requires rep { rep ≤ COUNT_LIMIT }
-        ensures value { let s = self.now in IsDecision s.tables.now s.weights.now s.call.now s.items.now s.leaves.now (spec.decided s.tables.now s.weights.now s.call.now s.items.now s.leaves.now rep) result }
-        ensures fits { scratch.new ≡ scratch_of self.now.tables.now }
+        ensures value { let s = self.now in IsDecision scratch.old s.weights.now s.call.now s.items.now s.leaves.now (spec.decided scratch.old s.weights.now s.call.now s.items.now s.leaves.now rep) result }
+        ensures same { scratch.new ≡ scratch.old }
     {
         let since = effort.spent();
         let mut asked = false;
@@ -250,9 +242,10 @@ impl<'a> Firstn<'a> {
             if mark.is_some() {
                 return Decision::Mark(mark);
             }
-            if !asked && effort.is_due(self.tables, self.call.bucket, since) {
+            let tables = scratch.tables();
+            if !asked && effort.is_due(tables, self.call.bucket, since) {
                 asked = true;
-                if !self.can_place() {
+                if !self.can_place(tables) {
                     return Decision::Hopeless;
                 }
             }
@@ -262,11 +255,11 @@ impl<'a> Firstn<'a> {
 
     /// Decides a rep: it has no mark where no room is left.
     fn decide_with_room(&self, scratch: &mut Scratch, rep: u32, effort: &mut Effort) -> Decision
-        requires fits { scratch.old ≡ scratch_of self.now.tables.now }
+        requires from { self.now.call.now.bucket < length scratch.old.buckets }
         requires rep { rep ≤ COUNT_LIMIT }
-        ensures value { let s = self.now in IsDecision s.tables.now s.weights.now s.call.now s.items.now s.leaves.now (spec.mark_beside s.tables.now s.weights.now s.call.now s.items.now s.leaves.now rep) result }
+        ensures value { let s = self.now in IsDecision scratch.old s.weights.now s.call.now s.items.now s.leaves.now (spec.mark_beside scratch.old s.weights.now s.call.now s.items.now s.leaves.now rep) result }
         ensures room { length self.now.items.now + length (items_of (mark_in result ∷ [])) ≤ self.now.call.now.room }
-        ensures fits { scratch.new ≡ scratch_of self.now.tables.now }
+        ensures same { scratch.new ≡ scratch.old }
     {
         if (self.items.len() as u32) < self.call.room {
             self.decide(scratch, rep, effort)
@@ -322,7 +315,6 @@ pub fn choose_firstn(
     let mut effort = Effort::new();
     for rep in 0..call.numrep {
         let firstn = Firstn {
-            tables,
             weights,
             call,
             items: items.items(),

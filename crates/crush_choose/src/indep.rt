@@ -6,6 +6,7 @@ ghost use Rattle.crush_bucket.specs.Tables.{scratch_of, bucket_numbered};
 ghost use Rattle.crush_choose.specs.Marks.{Marks, item_at, leaf_at};
 ghost use Rattle.crush_choose.specs.Indep as spec;
 ghost use Rattle.crush_choose.specs.Indep.{IsIndepCall, IsIndepAnswer};
+ghost use Rattle.crush_choose.specs.Private.Calls.{AreIndepNumbers};
 ghost use Rattle.crush_choose.specs.Private.Decisions.{PlaceTheSame};
 ghost use Rattle.crush_choose.specs.Private.Reachable.{indep_can_place};
 ghost use Rattle.crush_map.specs.declared.limits.TheConstants.{BUCKET_LIMIT, TRIES_LIMIT};
@@ -122,10 +123,9 @@ fn fill(items: &mut Row, leaves: &mut Row, marks: &[Option<Mark>])
 /// A call of `choose_indep`.
 #[derive(Clone, Copy)]
 struct Indep<'a> {
-    tables: &'a Tables,
     weights: &'a Weights,
     call: &'a IndepCall,
-    ghost in_range: { IsIndepCall tables.now call.now },
+    ghost in_range: { AreIndepNumbers call.now },
 }
 
 impl<'a> Indep<'a> {
@@ -139,12 +139,11 @@ impl<'a> Indep<'a> {
         round: u32,
         effort: &mut Effort,
     ) -> Option<ItemId>
-        requires bucket { bucket < length self.now.tables.now.buckets }
-        requires fits { scratch.old ≡ scratch_of self.now.tables.now }
+        requires bucket { bucket < length scratch.old.buckets }
         requires low { start < 2 ^ 20 }
         requires soon { round ≤ TRIES_LIMIT }
-        ensures value { let s = self.now in result ≡ spec.indep_leaf_by s.tables.now s.weights.now s.call.now bucket start round }
-        ensures fits { scratch.new ≡ scratch_of self.now.tables.now }
+        ensures value { let s = self.now in result ≡ spec.indep_leaf_by scratch.old s.weights.now s.call.now bucket start round }
+        ensures same { scratch.new ≡ scratch.old }
     {
         let x = self.call.x;
         let walk = Walk {
@@ -157,7 +156,7 @@ impl<'a> Indep<'a> {
             numrep: self.call.numrep,
             round,
         };
-        match reach(self.tables, scratch, walk, attempts, effort) {
+        match reach(scratch, walk, attempts, effort) {
             Reached::Found(item, _) => is_device_in(self.weights, x, item).then_some(item),
             Reached::Empty => None,
             Reached::Wrong => None,
@@ -173,11 +172,10 @@ impl<'a> Indep<'a> {
         start: u32,
         effort: &mut Effort,
     ) -> Option<ItemId>
-        requires bucket { bucket < length self.now.tables.now.buckets }
-        requires fits { scratch.old ≡ scratch_of self.now.tables.now }
+        requires bucket { bucket < length scratch.old.buckets }
         requires low { start < 2 ^ 20 }
-        ensures value { let s = self.now in result ≡ spec.indep_leaf s.tables.now s.weights.now s.call.now bucket start }
-        ensures fits { scratch.new ≡ scratch_of self.now.tables.now }
+        ensures value { let s = self.now in result ≡ spec.indep_leaf scratch.old s.weights.now s.call.now bucket start }
+        ensures same { scratch.new ≡ scratch.old }
     {
         a_pick_is_pickable();
         let since = effort.spent();
@@ -187,9 +185,10 @@ impl<'a> Indep<'a> {
             if leaf.is_some() {
                 return leaf;
             }
-            if !asked && effort.is_due(self.tables, self.call.bucket, since) {
+            let tables = scratch.tables();
+            if !asked && effort.is_due(tables, self.call.bucket, since) {
                 asked = true;
-                if !can_have_leaf(self.tables, self.weights, self.call.x, &[], bucket) {
+                if !can_have_leaf(tables, self.weights, self.call.x, &[], bucket) {
                     return None;
                 }
             }
@@ -206,13 +205,12 @@ impl<'a> Indep<'a> {
         r: u32,
         effort: &mut Effort,
     ) -> Option<ItemId>
-        requires fits { scratch.old ≡ scratch_of self.now.tables.now }
         requires pos { pos < SIZE_LIMIT }
         requires low { r < 2 ^ 16 }
-        ensures value { let s = self.now in result ≡ spec.indep_leaf_of s.tables.now s.weights.now s.call.now pos item r (bucket_numbered s.tables.now item) }
-        ensures fits { scratch.new ≡ scratch_of self.now.tables.now }
+        ensures value { let s = self.now in result ≡ spec.indep_leaf_of scratch.old s.weights.now s.call.now pos item r (bucket_numbered scratch.old item) }
+        ensures same { scratch.new ≡ scratch.old }
     {
-        match self.tables.bucket_of(item) {
+        match scratch.tables().bucket_of(item) {
             None => is_device_in(self.weights, self.call.x, item).then_some(item),
             Some(_) if self.call.leaf_tries == 0 => Some(item),
             Some(bucket) => self.leaf_below(scratch, bucket, pos + r, effort),
@@ -229,12 +227,12 @@ impl<'a> Indep<'a> {
         round: u32,
         effort: &mut Effort,
     ) -> Option<Mark>
-        requires fits { scratch.old ≡ scratch_of self.now.tables.now }
+        requires from { self.now.call.now.bucket < length scratch.old.buckets }
         requires few { length marks.now ≤ SIZE_LIMIT }
         requires pos { pos < SIZE_LIMIT }
         requires soon { round ≤ TRIES_LIMIT }
-        ensures value { let s = self.now in result ≡ spec.indep_try s.tables.now s.weights.now s.call.now marks.now pos round }
-        ensures fits { scratch.new ≡ scratch_of self.now.tables.now }
+        ensures value { let s = self.now in result ≡ spec.indep_try scratch.old s.weights.now s.call.now marks.now pos round }
+        ensures same { scratch.new ≡ scratch.old }
     {
         let walk = Walk {
             x: self.call.x,
@@ -246,7 +244,7 @@ impl<'a> Indep<'a> {
             numrep: self.call.numrep,
             round,
         };
-        let (item, r) = match reach(self.tables, scratch, walk, attempts, effort) {
+        let (item, r) = match reach(scratch, walk, attempts, effort) {
             Reached::Found(item, r) => (item, r),
             Reached::Empty => return None,
             Reached::Wrong => return Some(Mark::Skipped),
@@ -267,12 +265,12 @@ impl<'a> Indep<'a> {
         round: u32,
         effort: &mut Effort,
     )
-        requires fits { scratch.old ≡ scratch_of self.now.tables.now }
+        requires from { self.now.call.now.bucket < length scratch.old.buckets }
         requires few { length marks.old ≤ SIZE_LIMIT }
         requires pos { pos < length marks.old }
         requires soon { round ≤ TRIES_LIMIT }
-        ensures value { let s = self.now in marks.new ≡ spec.after_try (spec.indep_try s.tables.now s.weights.now s.call.now) round pos marks.old }
-        ensures fits { scratch.new ≡ scratch_of self.now.tables.now }
+        ensures value { let s = self.now in marks.new ≡ spec.after_try (spec.indep_try scratch.old s.weights.now s.call.now) round pos marks.old }
+        ensures same { scratch.new ≡ scratch.old }
     {
         if marks[pos as usize].is_none() {
             marks[pos as usize] = self.indep_try(scratch, marks, pos, round, effort);
@@ -287,12 +285,12 @@ impl<'a> Indep<'a> {
         round: u32,
         effort: &mut Effort,
     )
-        requires fits { scratch.old ≡ scratch_of self.now.tables.now }
+        requires from { self.now.call.now.bucket < length scratch.old.buckets }
         requires places { length marks.old ≡ self.now.call.now.n }
         requires soon { round ≤ TRIES_LIMIT }
-        ensures value { let s = self.now in marks.new ≡ spec.in_round (spec.indep_try s.tables.now s.weights.now s.call.now) round s.call.now.n marks.old }
+        ensures value { let s = self.now in marks.new ≡ spec.in_round (spec.indep_try scratch.old s.weights.now s.call.now) round s.call.now.n marks.old }
         ensures places { length marks.new ≡ self.now.call.now.n }
-        ensures fits { scratch.new ≡ scratch_of self.now.tables.now }
+        ensures same { scratch.new ≡ scratch.old }
     {
         for pos in 0..self.call.n {
             self.try_position(scratch, marks, pos, round, effort);
@@ -300,9 +298,10 @@ impl<'a> Indep<'a> {
     }
 
     /// Returns whether a try of a position can place an item, given `marks`.
-    fn can_place(&self, marks: &[Option<Mark>]) -> bool
-        requires { length marks.now ≤ SIZE_LIMIT }
-        ensures { let s = self.now in result ≡ (nat_le BUCKET_LIMIT s.call.now.bucket || indep_can_place s.tables.now s.weights.now s.call.now (map item_at marks.now)) }
+    fn can_place(&self, tables: &Tables, marks: &[Option<Mark>]) -> bool
+        requires from { self.now.call.now.bucket < length tables.now.buckets }
+        requires few { length marks.now ≤ SIZE_LIMIT }
+        ensures { let s = self.now in result ≡ (nat_le BUCKET_LIMIT s.call.now.bucket || indep_can_place tables.now s.weights.now s.call.now (map item_at marks.now)) }
     {
         let mut items = Row::new();
         let mut leaves = Row::new();
@@ -313,19 +312,20 @@ impl<'a> Indep<'a> {
             from: self.call.bucket,
         };
         let leaf = self.call.leaf_tries > 0;
-        can_choose(self.tables, self.weights, walk, items.items(), leaf, &[])
+        can_choose(tables, self.weights, walk, items.items(), leaf, &[])
     }
 
     /// Makes the rounds, until each position is decided, none can be, or there is no round left.
     #[tactic(auto, unfolding(crate::specs::Indep::indep))]
     fn run_rounds(&self, scratch: &mut Scratch, marks: &mut [Option<Mark>])
-        requires fits { scratch.old ≡ scratch_of self.now.tables.now }
+        requires from { self.now.call.now.bucket < length scratch.old.buckets }
         requires places { marks.old ≡ replicate self.now.call.now.n None }
-        ensures value { let s = self.now in PlaceTheSame marks.new (spec.indep s.tables.now s.weights.now s.call.now) }
+        ensures value { let s = self.now in PlaceTheSame marks.new (spec.indep scratch.old s.weights.now s.call.now) }
         ensures places { length marks.new ≡ self.now.call.now.n }
-        ensures fits { scratch.new ≡ scratch_of self.now.tables.now }
+        ensures same { scratch.new ≡ scratch.old }
     {
         a_pick_is_pickable();
+        let tables = scratch.tables();
         let mut effort = Effort::new();
         let mut since = 0;
         let mut waiting = marks.len();
@@ -333,9 +333,9 @@ impl<'a> Indep<'a> {
             if all_decided(marks) {
                 return;
             }
-            if effort.is_due(self.tables, self.call.bucket, since) {
+            if effort.is_due(tables, self.call.bucket, since) {
                 let left = undecided(marks);
-                if left == waiting && !self.can_place(marks) {
+                if left == waiting && !self.can_place(tables, marks) {
                     return;
                 }
                 since = effort.spent();
@@ -370,11 +370,7 @@ pub fn choose_indep(
 {
     let mut row = [None; SIZE_LIMIT];
     let marks = &mut row[..call.n as usize];
-    let indep = Indep {
-        tables,
-        weights,
-        call,
-    };
+    let indep = Indep { weights, call };
     indep.run_rounds(scratch, marks);
     fill(items, leaves, marks);
 }

@@ -4,6 +4,9 @@
 //! Sources: Weil et al., 'CRUSH: Controlled, Scalable, Decentralized Placement of Replicated Data'
 //! (SC 2006), and `crush_do_rule` of Ceph's `src/crush/mapper.c`. A rule that runs allocates
 //! nothing and can't fail. The tests are in the crate `choosing_tests`.
+//!
+//! A scratch gives the tables that it is of (`Scratch::tables`), so what chooses takes the scratch
+//! alone. Public calls take the tables too, since their contracts name them.
 #![tactic(auto)]
 
 mod ahead;

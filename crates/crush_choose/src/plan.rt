@@ -1,18 +1,16 @@
 //! The output of a choose step.
 
 ghost use Rattle.std.specs.Prelude.{◌≡◌, ◌<◌, ◌≤◌, ◌+◌, ◌++◌, [], length, map};
-ghost use Rattle.crush_bucket.specs.Tables.{scratch_of};
 ghost use Rattle.crush_choose.specs.Rules.{put_out, slot_out, step_out};
 ghost use Rattle.crush_choose.specs.Private.Runs.{IsPlan, call_of};
 ghost use Rattle.crush_choose.specs.declared.limits.TheConstants.{SIZE_LIMIT};
 
 use crate::{FirstnCall, IndepCall, Row, Slot, Weights, choose_firstn, choose_indep};
-use crush_bucket::{BucketNo, Scratch, Tables};
+use crush_bucket::{BucketNo, Scratch};
 
 /// The parameters of a choose step, which are the same for each bucket of the working list.
 #[derive(Clone, Copy)]
 pub(crate) struct Plan<'a> {
-    pub tables: &'a Tables,
     pub weights: &'a Weights,
     pub firstn: bool,
     pub leaf: bool,
@@ -48,16 +46,16 @@ impl<'a> Plan<'a> {
     #[tactic(auto, unfolding(crate::specs::Rules::put_out))]
     fn put_out(&self, scratch: &mut Scratch, room: u32, bucket: BucketNo, rows: &mut Rows)
         requires plan { IsPlan self.now }
-        requires bucket { bucket < length self.now.tables.now.buckets }
-        requires fits { scratch.old ≡ scratch_of self.now.tables.now }
+        requires bucket { bucket < length scratch.old.buckets }
         requires room { length rows.old.out + room ≤ SIZE_LIMIT }
-        ensures value { rows.new.out ≡ rows.old.out ++ put_out self.now.tables.now self.now.weights.now (call_of self.now) room bucket }
-        ensures room { length (put_out self.now.tables.now self.now.weights.now (call_of self.now) room bucket) ≤ room }
-        ensures fits { scratch.new ≡ scratch_of self.now.tables.now }
+        ensures value { rows.new.out ≡ rows.old.out ++ put_out scratch.old self.now.weights.now (call_of self.now) room bucket }
+        ensures room { length (put_out scratch.old self.now.weights.now (call_of self.now) room bucket) ≤ room }
+        ensures same { scratch.new ≡ scratch.old }
     {
         if self.numrep == 0 {
             return;
         }
+        let tables = scratch.tables();
         if self.firstn {
             let call = FirstnCall {
                 bucket,
@@ -71,7 +69,7 @@ impl<'a> Plan<'a> {
                 stable: self.stable,
             };
             choose_firstn(
-                self.tables,
+                tables,
                 scratch,
                 &call,
                 self.weights,
@@ -89,7 +87,7 @@ impl<'a> Plan<'a> {
                 leaf_tries: self.leaf_tries,
             };
             choose_indep(
-                self.tables,
+                tables,
                 scratch,
                 &call,
                 self.weights,
@@ -107,14 +105,13 @@ impl<'a> Plan<'a> {
     /// Appends the output of one slot of the working list: nothing for a device or an empty slot.
     fn slot_out(&self, scratch: &mut Scratch, room: u32, slot: Slot, rows: &mut Rows)
         requires plan { IsPlan self.now }
-        requires fits { scratch.old ≡ scratch_of self.now.tables.now }
         requires room { length rows.old.out + room ≤ SIZE_LIMIT }
-        ensures value { rows.new.out ≡ rows.old.out ++ slot_out self.now.tables.now self.now.weights.now (call_of self.now) room slot }
-        ensures room { length (slot_out self.now.tables.now self.now.weights.now (call_of self.now) room slot) ≤ room }
-        ensures fits { scratch.new ≡ scratch_of self.now.tables.now }
+        ensures value { rows.new.out ≡ rows.old.out ++ slot_out scratch.old self.now.weights.now (call_of self.now) room slot }
+        ensures room { length (slot_out scratch.old self.now.weights.now (call_of self.now) room slot) ≤ room }
+        ensures same { scratch.new ≡ scratch.old }
     {
         match slot {
-            Some(item) => match self.tables.bucket_of(item) {
+            Some(item) => match scratch.tables().bucket_of(item) {
                 Some(bucket) => self.put_out(scratch, room, bucket, rows),
                 None => {}
             },
@@ -131,12 +128,11 @@ impl<'a> Plan<'a> {
         rows: &mut Rows,
     )
         requires plan { IsPlan self.now }
-        requires fits { scratch.old ≡ scratch_of self.now.tables.now }
         requires size { size ≤ SIZE_LIMIT }
         requires empty { rows.old.out ≡ [] }
-        ensures value { rows.new.out ≡ step_out self.now.tables.now self.now.weights.now (call_of self.now) size working.now }
+        ensures value { rows.new.out ≡ step_out scratch.old self.now.weights.now (call_of self.now) size working.now }
         ensures room { length rows.new.out ≤ size }
-        ensures fits { scratch.new ≡ scratch_of self.now.tables.now }
+        ensures same { scratch.new ≡ scratch.old }
     {
         for slot in working {
             let room = size - rows.out.len() as u32;

@@ -1,13 +1,13 @@
 //! Running a rule.
 
-ghost use Rattle.std.specs.Prelude.{◌≡◌, ◌<◌, ◌≤◌, ◌+◌, ◌-◌, ◌*◌, ◌++◌, [], ◌∷◌, take, length, vec_len, vec_capacity, slice_index_or, IfOk, Some, true, ℕ, List};
+ghost use Rattle.std.specs.Prelude.{◌≡◌, ◌<◌, ◌≤◌, ◌+◌, ◌-◌, ◌*◌, ◌++◌, [], ◌∷◌, take, length, vec_len, vec_capacity, IfOk, Some, true, ℕ, List};
 ghost use Rattle.std.specs.List.Sorted.{IsStrictlyIncreasing};
 ghost use Rattle.crush_map.specs.Faults.{are_in_range, has_number};
 ghost use Rattle.crush_bucket.specs.Tables.{scratch_of};
 ghost use Rattle.crush_choose.specs.Rules as spec;
 ghost use Rattle.crush_choose.specs.Rules.{CanRun, IsTrace, rule_answer, with_chosen};
 ghost use Rattle.crush_choose.specs.Stability.{AreLoweredOutside};
-ghost use Rattle.crush_choose.specs.Private.Runs.{AreSettings, IsPlan, IsRun, IsStep, call_of, no_step, settings_in, state_of};
+ghost use Rattle.crush_choose.specs.Private.Runs.{AreSettings, IsPlan, IsRun, IsStep, call_of, settings_in, state_of};
 ghost use Rattle.crush_map.specs.declared.limits.TheConstants.{STEP_LIMIT};
 ghost use Rattle.crush_choose.specs.declared.limits.TheConstants.{SIZE_LIMIT};
 
@@ -109,13 +109,12 @@ fn emit(emitted: &mut Row, working: &[Slot], size: u32)
 /// Runs one choose step, after k steps.
 fn choose(plan: &Plan, scratch: &mut Scratch, size: u32, run: &mut Run, k: u32)
     requires plan { IsPlan plan.now }
-    requires fits { scratch.old ≡ scratch_of plan.now.tables.now }
     requires size { size ≤ SIZE_LIMIT }
     requires few { k < STEP_LIMIT }
     requires run { IsRun size k run.old }
-    ensures value { state_of run.new ≡ with_chosen (state_of run.old) (spec.step_out plan.now.tables.now plan.now.weights.now (call_of plan.now) size run.old.working) }
+    ensures value { state_of run.new ≡ with_chosen (state_of run.old) (spec.step_out scratch.old plan.now.weights.now (call_of plan.now) size run.old.working) }
     ensures run { IsRun size (k + 1) run.new }
-    ensures fits { scratch.new ≡ scratch_of plan.now.tables.now }
+    ensures same { scratch.new ≡ scratch.old }
 {
     run.rows.out.clear();
     plan.step_out(scratch, size, run.working.items(), &mut run.rows);
@@ -153,28 +152,25 @@ fn finish(made: &mut Vec<u32>)
     made.dedup();
 }
 
-/// What a rule is run on: the tables, the reweights, the input, and how many slots the answer has
-/// at most.
+/// What a rule is run on beside a scratch: the reweights, the input, and how many slots the answer
+/// has at most.
 #[derive(Clone, Copy)]
 struct Runner<'a> {
-    tables: &'a Tables,
     weights: &'a Weights,
     x: u32,
     size: u32,
     ghost few: { size ≤ SIZE_LIMIT },
-    ghost tunables: { are_in_range tables.now.tunables ≡ true },
 }
 
 impl<'a> Runner<'a> {
     /// Runs one step of a rule, after k steps.
     fn after_step(&self, scratch: &mut Scratch, run: &mut Run, step: Step, k: u32)
-        requires fits { scratch.old ≡ scratch_of self.now.tables.now }
         requires few { k < STEP_LIMIT }
         requires step { IsStep self.now.size step }
         requires run { IsRun self.now.size k run.old }
-        ensures value { let s = self.now in state_of run.new ≡ spec.after_step s.tables.now s.weights.now s.x s.size (state_of run.old) step }
+        ensures value { let s = self.now in state_of run.new ≡ spec.after_step scratch.old s.weights.now s.x s.size (state_of run.old) step }
         ensures run { IsRun self.now.size (k + 1) run.new }
-        ensures fits { scratch.new ≡ scratch_of self.now.tables.now }
+        ensures same { scratch.new ≡ scratch.old }
     {
         match step {
             Step::Take(item) => {
@@ -201,7 +197,6 @@ impl<'a> Runner<'a> {
             } => {
                 let settings = run.settings;
                 let plan = Plan {
-                    tables: self.tables,
                     weights: self.weights,
                     firstn,
                     leaf,
@@ -210,7 +205,7 @@ impl<'a> Runner<'a> {
                     wanted,
                     tries: settings.tries,
                     leaf_tries: if leaf {
-                        leaf_tries(self.tables.tunables(), settings, firstn)
+                        leaf_tries(scratch.tables().tunables(), settings, firstn)
                     } else {
                         0
                     },
@@ -228,36 +223,33 @@ impl<'a> Runner<'a> {
 
     /// Runs the steps of a rule in order.
     #[tactic(auto, unfolding(crate::specs::Rules::after_rule))]
-    fn take_steps(&self, scratch: &mut Scratch, steps: &[Step], run: &mut Run)
-        requires fits { scratch.old ≡ scratch_of self.now.tables.now }
-        requires few { length steps.now ≤ STEP_LIMIT }
-        requires steps { (k : ℕ) → k < length steps.now → IsStep self.now.size (slice_index_or steps.now k no_step) }
+    fn take_steps(&self, scratch: &mut Scratch, rule: &Rule, run: &mut Run)
+        requires rule { CanRun scratch.old rule.now }
         requires capacity { TRACE_LIMIT ≤ vec_capacity run.old.made }
-        ensures items { let s = self.now in run.new.emitted ≡ rule_answer s.tables.now s.weights.now steps.now s.x s.size }
+        ensures items { let s = self.now in run.new.emitted ≡ rule_answer scratch.old s.weights.now rule.now.steps s.x s.size }
         ensures room { length run.new.emitted ≤ self.now.size }
-        ensures made { let s = self.now in run.new.made.items ≡ (spec.after_rule s.tables.now s.weights.now steps.now s.x s.size).made }
+        ensures made { let s = self.now in run.new.made.items ≡ (spec.after_rule scratch.old s.weights.now rule.now.steps s.x s.size).made }
         ensures capacity { TRACE_LIMIT ≤ vec_capacity run.new.made }
-        ensures fits { scratch.new ≡ scratch_of self.now.tables.now }
+        ensures same { scratch.new ≡ scratch.old }
     {
-        start(self.tables.tunables(), run);
+        let steps = rule.steps.as_slice();
+        start(scratch.tables().tunables(), run);
         for (k, step) in steps.iter().enumerate() {
             self.after_step(scratch, run, *step, k as u32);
         }
     }
 
     /// Runs the steps of a rule in order, then makes the trace.
-    fn trace_steps(&self, scratch: &mut Scratch, steps: &[Step], run: &mut Run)
-        requires fits { scratch.old ≡ scratch_of self.now.tables.now }
-        requires few { length steps.now ≤ STEP_LIMIT }
-        requires steps { (k : ℕ) → k < length steps.now → IsStep self.now.size (slice_index_or steps.now k no_step) }
+    fn trace_steps(&self, scratch: &mut Scratch, rule: &Rule, run: &mut Run)
+        requires rule { CanRun scratch.old rule.now }
         requires capacity { TRACE_LIMIT ≤ vec_capacity run.old.made }
-        ensures items { let s = self.now in run.new.emitted ≡ rule_answer s.tables.now s.weights.now steps.now s.x s.size }
+        ensures items { let s = self.now in run.new.emitted ≡ rule_answer scratch.old s.weights.now rule.now.steps s.x s.size }
         ensures room { length run.new.emitted ≤ self.now.size }
-        ensures trace { let s = self.now in IsTrace s.tables.now s.weights.now steps.now s.x s.size run.new.made.items }
+        ensures trace { let s = self.now in IsTrace scratch.old s.weights.now rule.now.steps s.x s.size run.new.made.items }
         ensures capacity { TRACE_LIMIT ≤ vec_capacity run.new.made }
-        ensures fits { scratch.new ≡ scratch_of self.now.tables.now }
+        ensures same { scratch.new ≡ scratch.old }
     {
-        self.take_steps(scratch, steps, run);
+        self.take_steps(scratch, rule, run);
         finish(&mut run.made);
     }
 }
@@ -359,13 +351,8 @@ pub fn run_rule(
     ensures trace_stays { (lowered : List ℕ) → AreLoweredOutside out.new.trace weights.now lowered → IsTrace tables.now lowered rule.now.steps x size out.new.trace }
     ensures fits { scratch.new ≡ scratch_of tables.now }
 {
-    let runner = Runner {
-        tables,
-        weights,
-        x,
-        size,
-    };
-    runner.trace_steps(scratch, rule.steps.as_slice(), &mut out.run);
+    let runner = Runner { weights, x, size };
+    runner.trace_steps(scratch, rule, &mut out.run);
 }
 
 /// Runs a rule for an input as `run_rule` does, and returns whether a device is in the trace of the
@@ -390,12 +377,7 @@ pub fn touches(
     ensures room { length out.new.items ≤ size }
     ensures fits { scratch.new ≡ scratch_of tables.now }
 {
-    let runner = Runner {
-        tables,
-        weights,
-        x,
-        size,
-    };
-    runner.take_steps(scratch, rule.steps.as_slice(), &mut out.run);
+    let runner = Runner { weights, x, size };
+    runner.take_steps(scratch, rule, &mut out.run);
     has_number(out.run.made.as_slice(), device)
 }

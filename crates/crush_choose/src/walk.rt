@@ -1,7 +1,6 @@
 //! The walk down from a bucket to an item of a type.
 
 ghost use Rattle.std.specs.Prelude.{◌≡◌, ◌+◌, ◌*◌, ◌<◌, ◌≤◌, ◌^◌, length};
-ghost use Rattle.crush_bucket.specs.Tables.{scratch_of};
 ghost use Rattle.crush_choose.specs.Reach.{reach, step};
 ghost use Rattle.crush_choose.specs.Private.Walks.{AreAttempts, IsUpTo};
 ghost use Rattle.crush_map.specs.declared.limits.TheConstants.{COUNT_LIMIT};
@@ -62,19 +61,18 @@ fn attempt_at(tables: &Tables, attempts: Attempts, bucket: BucketNo) -> u32
 /// It is inlined: a mapping has few picks for each walk.
 #[inline(always)]
 pub(crate) fn reach(
-    tables: &Tables,
     scratch: &mut Scratch,
     walk: Walk,
     attempts: Attempts,
     effort: &mut Effort,
 ) -> Reached
-    requires from { walk.from < length tables.now.buckets }
-    requires fits { scratch.old ≡ scratch_of tables.now }
+    requires from { walk.from < length scratch.old.buckets }
     requires attempts { AreAttempts attempts }
-    ensures value { result ≡ reach tables.now walk.x (λ b. attempts.start + step tables.now attempts.numrep attempts.round b) walk.wanted walk.from }
+    ensures value { result ≡ reach scratch.old walk.x (λ b. attempts.start + step scratch.old attempts.numrep attempts.round b) walk.wanted walk.from }
     ensures up_to { IsUpTo (attempts.start + (COUNT_LIMIT + 1) * attempts.round) result }
-    ensures fits { scratch.new ≡ scratch_of tables.now }
+    ensures same { scratch.new ≡ scratch.old }
 {
+    let tables = scratch.tables();
     let mut bucket = walk.from;
     'down: loop {
         if tables.is_empty(bucket) {
@@ -103,24 +101,17 @@ pub(crate) fn reach(
 
 /// Walks as `reach` does, with the same attempt at each bucket.
 #[inline(always)]
-pub(crate) fn reach_by(
-    tables: &Tables,
-    scratch: &mut Scratch,
-    walk: Walk,
-    r: u32,
-    effort: &mut Effort,
-) -> Reached
-    requires from { walk.from < length tables.now.buckets }
-    requires fits { scratch.old ≡ scratch_of tables.now }
+pub(crate) fn reach_by(scratch: &mut Scratch, walk: Walk, r: u32, effort: &mut Effort) -> Reached
+    requires from { walk.from < length scratch.old.buckets }
     requires low { r < 2 ^ 31 }
-    ensures value { result ≡ reach tables.now walk.x (λ b. r) walk.wanted walk.from }
+    ensures value { result ≡ reach scratch.old walk.x (λ b. r) walk.wanted walk.from }
     ensures up_to { IsUpTo r result }
-    ensures fits { scratch.new ≡ scratch_of tables.now }
+    ensures same { scratch.new ≡ scratch.old }
 {
     let attempts = Attempts {
         start: r,
         numrep: 1,
         round: 0,
     };
-    reach(tables, scratch, walk, attempts, effort)
+    reach(scratch, walk, attempts, effort)
 }

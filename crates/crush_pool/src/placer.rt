@@ -8,7 +8,7 @@ ghost use Rattle.crush_pool.specs.Placements.{rule_numbered};
 ghost use Rattle.crush_pool.specs.States.{flags_of, reweights};
 
 use crate::exceptions::Exceptions;
-use crate::placing::{Placement, placement_by, rule_with_id, run, set_up};
+use crate::placing::{Placement, Placing, rule_with_id};
 use crate::pool::{Pool, PoolParts};
 use crate::states::{DeviceState, DeviceStates};
 use crush_bucket::{LANES, Scratch, Tables};
@@ -23,13 +23,8 @@ use std::marker::Model;
 #[derive(Drop)]
 pub struct Placer<'a> {
     map: &'a CrushMap,
-    tables: &'a Tables,
-    rule: &'a Rule,
     states: &'a [DeviceState],
-    weights: &'a Weights,
-    flags: &'a DeviceStates,
-    pool: &'a Pool,
-    exceptions: &'a Exceptions,
+    placing: Placing<'a>,
 }
 
 impl<'a> Model for Placer<'a> {
@@ -45,16 +40,16 @@ impl<'a> Model for Placer<'a> {
 
     ghost Value = { PoolOnMap };
 
-    ghost view = { λ a. record { map = a.map.now; states = a.states.now; pool = a.pool.now; pairs = a.exceptions.now } };
+    ghost view = { λ a. record { map = a.map.now; states = a.states.now; pool = a.placing.pool.now; pairs = a.placing.exceptions.now } };
 
     ghost invariant = { λ a. record {
       map : IsMap a.map.now;
-      tables : a.tables.now ≡ tables_of a.map.now;
-      weights : a.weights.now ≡ weights_of (reweights a.states.now);
-      flags : a.flags.now ≡ flags_of a.states.now;
-      rule : rule_numbered a.map.now a.pool.now.rule ≡ Some a.rule.now;
-      runs : CanRun a.tables.now a.rule.now;
-      pairs : are_pairs a.pool.now.pg_num a.exceptions.now ≡ true;
+      tables : a.placing.tables.now ≡ tables_of a.map.now;
+      weights : a.placing.weights.now ≡ weights_of (reweights a.states.now);
+      flags : a.placing.flags.now ≡ flags_of a.states.now;
+      rule : rule_numbered a.map.now a.placing.pool.now.rule ≡ Some a.placing.rule.now;
+      runs : CanRun a.placing.tables.now a.placing.rule.now;
+      pairs : are_pairs a.placing.pool.now.pg_num a.placing.exceptions.now ≡ true;
     } };
 }
 
@@ -94,15 +89,18 @@ impl<'a> Placer<'a> {
         ensures map { IsMap map.now }
     {
         let rule = rule_with_id(map, pool.parts().rule)?;
-        Some(Placer {
-            map,
+        let placing = Placing {
             tables,
             rule,
-            states,
             weights,
             flags,
             pool,
             exceptions,
+        };
+        Some(Placer {
+            map,
+            states,
+            placing,
         })
     }
 
@@ -120,14 +118,14 @@ impl<'a> Placer<'a> {
         ensures same { result.now ≡ tables_of self.now.map }
         ensures rule { is_some (rule_numbered self.now.map self.now.pool.rule) ≡ true }
     {
-        self.tables
+        self.placing.tables
     }
 
     /// Returns the pool.
     pub fn pool(&self) -> &'a Pool
         ensures { result.now ≡ self.now.pool }
     {
-        self.pool
+        self.placing.pool
     }
 
     /// Returns the pool's settings, which are in range.
@@ -136,7 +134,7 @@ impl<'a> Placer<'a> {
         ensures valid { is_pool self.now.pool ≡ true }
         ensures map { IsMap self.now.map }
     {
-        self.pool.parts()
+        self.placing.pool.parts()
     }
 
     /// Returns the exceptions of the pool.
@@ -144,14 +142,14 @@ impl<'a> Placer<'a> {
         ensures same { result.now ≡ self.now.pairs }
         ensures valid { are_pairs self.now.pool.pg_num self.now.pairs ≡ true }
     {
-        self.exceptions
+        self.placing.exceptions
     }
 
     /// Returns the flags of the states: which devices are up.
     pub fn flags(&self) -> &'a DeviceStates
         ensures { result.now ≡ flags_of self.now.states }
     {
-        self.flags
+        self.placing.flags
     }
 
     /// Runs the pool's rule for a group: sets `out` to its answer and to the trace of the run.
@@ -162,15 +160,7 @@ impl<'a> Placer<'a> {
         ensures trace { IsTrace (tables_of self.now.map) (weights_of (reweights self.now.states)) (steps_of self.now) (seed_of self.now.pool group) self.now.pool.size out.new.trace }
         ensures fits { scratch.new ≡ scratch_of (tables_of self.now.map) }
     {
-        run(
-            self.tables,
-            scratch,
-            self.pool,
-            self.rule,
-            self.weights,
-            group,
-            out,
-        );
+        self.placing.run(scratch, out, group);
     }
 
     /// Picks ahead, at each group that is a multiple of eight, what the pool's rule asks for first
@@ -180,15 +170,15 @@ impl<'a> Placer<'a> {
         requires fits { scratch.old ≡ scratch_of (tables_of self.now.map) }
         ensures fits { scratch.new ≡ scratch_of (tables_of self.now.map) }
     {
-        if group % LANES as u32 != 0 || !can_look_ahead(self.tables, self.rule) {
+        if group % LANES as u32 != 0 || !can_look_ahead(self.placing.tables, self.placing.rule) {
             return;
         }
         let mut xs = [0; LANES];
         for lane in 0..LANES {
-            xs[lane] = self.pool.seed_of(group.wrapping_add(lane as u32));
+            xs[lane] = self.placing.pool.seed_of(group.wrapping_add(lane as u32));
         }
-        let size = self.pool.parts().size;
-        look_ahead(self.tables, scratch, self.rule, xs, size);
+        let size = self.placing.pool.parts().size;
+        look_ahead(self.placing.tables, scratch, self.placing.rule, xs, size);
     }
 
     /// Runs the pool's rule for a group, as one of many in order, as `run` does.
@@ -210,15 +200,15 @@ impl<'a> Placer<'a> {
         ensures items { out.new.items ≡ rule_answer (tables_of self.now.map) (weights_of (reweights self.now.states)) (steps_of self.now) (seed_of self.now.pool group) self.now.pool.size }
         ensures fits { scratch.new ≡ scratch_of (tables_of self.now.map) }
     {
-        let seed = self.pool.seed_of(group);
-        let size = self.pool.parts().size;
+        let seed = self.placing.pool.seed_of(group);
+        let size = self.placing.pool.parts().size;
         touches(
-            self.tables,
+            self.placing.tables,
             scratch,
-            self.rule,
+            self.placing.rule,
             seed,
             size,
-            self.weights,
+            self.placing.weights,
             out,
             device,
         )
@@ -230,16 +220,7 @@ impl<'a> Placer<'a> {
         requires { length raw.now ≤ SIZE_LIMIT }
         ensures { OnOk result (up.new.items ≡ up_of self.now.pool.erasure (flags_of self.now.states) (excepted (tables_of self.now.map) (weights_of (reweights self.now.states)) self.now.pairs group raw.now)) }
     {
-        set_up(
-            up,
-            self.tables,
-            self.weights,
-            self.pool,
-            self.exceptions,
-            self.flags,
-            group,
-            raw,
-        )
+        self.placing.set_up(up, group, raw)
     }
 
     /// Places a group of the pool. Afterwards `out` has the rule's answer and the trace of its run.
@@ -259,16 +240,7 @@ impl<'a> Placer<'a> {
         ensures fits { scratch.new ≡ scratch_of (tables_of self.now.map) }
     {
         self.run(scratch, out, group);
-        let placement = placement_by(
-            alloc,
-            self.tables,
-            self.weights,
-            self.pool,
-            self.exceptions,
-            self.flags,
-            group,
-            out.items(),
-        )?;
+        let placement = self.placing.placement_by(alloc, group, out.items())?;
         Ok(placement)
     }
 }

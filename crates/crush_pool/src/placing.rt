@@ -76,31 +76,6 @@ fn set_up_of(
     Ok(())
 }
 
-/// Sets `up` to the up list of a group, by what the rule answered for it. Only where the group has
-/// exceptions they are applied, to a copy of the answer. `Err(AllocError)`: an allocation failed.
-#[tactic(auto, using(crate::proofs::Pairs::nothing_excepted))]
-pub(crate) fn set_up(
-    up: &mut Vec<Slot>,
-    tables: &Tables,
-    weights: &Weights,
-    pool: &Pool,
-    exceptions: &Exceptions,
-    states: &DeviceStates,
-    group: u32,
-    raw: &[Slot],
-) -> Result<(), AllocError>
-    requires { length raw.now ≤ SIZE_LIMIT }
-    ensures { OnOk result (up.new.items ≡ spec.up_of pool.now.erasure states.now (excepted tables.now weights.now exceptions.now group raw.now)) }
-{
-    let erasure = pool.parts().erasure;
-    if exceptions.concern(group) {
-        let changed = Excepted::new(tables, weights, exceptions, group, raw);
-        set_up_of(up, erasure, states, changed.items())
-    } else {
-        set_up_of(up, erasure, states, raw)
-    }
-}
-
 /// Finds the first device of an up list. `None` where there is none.
 pub fn primary_of(up: &[Slot]) -> Slot
     ensures { result ≡ spec.primary_of up.now }
@@ -124,56 +99,86 @@ fn copied(alloc: Global, slots: &[Slot]) -> Result<Vec<Slot>, AllocError>
     Ok(copy)
 }
 
-/// Runs a rule for a group of a pool: sets `out` to its answer and to the trace of the run.
-pub(crate) fn run(
-    tables: &Tables,
-    scratch: &mut Scratch,
-    pool: &Pool,
-    rule: &Rule,
-    weights: &Weights,
-    group: u32,
-    out: &mut Out,
-)
-    requires rule { CanRun tables.now rule.now }
-    requires fits { scratch.old ≡ scratch_of tables.now }
-    ensures items { out.new.items ≡ rule_answer tables.now weights.now rule.now.steps (seed_of pool.now group) pool.now.size }
-    ensures trace { IsTrace tables.now weights.now rule.now.steps (seed_of pool.now group) pool.now.size out.new.trace }
-    ensures fits { scratch.new ≡ scratch_of tables.now }
-{
-    let seed = pool.seed_of(group);
-    let size = pool.parts().size;
-    run_rule(tables, scratch, rule, seed, size, weights, out);
+/// What places the groups of a pool: the tables, a rule, the reweights, which devices are up, and
+/// the exceptions of the pool.
+#[derive(Clone, Copy)]
+pub(crate) struct Placing<'a> {
+    pub tables: &'a Tables,
+    pub rule: &'a Rule,
+    pub weights: &'a Weights,
+    pub flags: &'a DeviceStates,
+    pub pool: &'a Pool,
+    pub exceptions: &'a Exceptions,
 }
 
-/// Makes the placement of a group by what the pool's rule answered for it.
-pub(crate) fn placement_by(
-    alloc: Global,
-    tables: &Tables,
-    weights: &Weights,
-    pool: &Pool,
-    exceptions: &Exceptions,
-    states: &DeviceStates,
-    group: u32,
-    raw: &[Slot],
-) -> Result<Placement, AllocError>
-    requires { length raw.now ≤ SIZE_LIMIT }
-    ensures seed { IfOk result (λ p. p.seed ≡ seed_of pool.now group) }
-    ensures raw { IfOk result (λ p. p.raw ≡ raw.now) }
-    ensures up { IfOk result (λ p. p.up ≡ spec.up_of pool.now.erasure states.now (excepted tables.now weights.now exceptions.now group raw.now)) }
-    ensures primary { IfOk result (λ p. p.primary ≡ spec.primary_of p.up) }
-{
-    let copy = copied(alloc, raw)?;
-    let mut up = Vec::with_capacity(alloc, raw.len())?;
-    set_up(
-        &mut up, tables, weights, pool, exceptions, states, group, raw,
-    )?;
-    let primary = primary_of(&up);
-    Ok(Placement {
-        seed: pool.seed_of(group),
-        raw: Listed::new(copy),
-        up: Listed::new(up),
-        primary,
-    })
+impl<'a> Placing<'a> {
+    /// Runs the rule for a group: sets `out` to its answer and to the trace of the run.
+    pub(crate) fn run(&self, scratch: &mut Scratch, out: &mut Out, group: u32)
+        requires rule { CanRun self.now.tables.now self.now.rule.now }
+        requires fits { scratch.old ≡ scratch_of self.now.tables.now }
+        ensures items { let s = self.now in out.new.items ≡ rule_answer s.tables.now s.weights.now s.rule.now.steps (seed_of s.pool.now group) s.pool.now.size }
+        ensures trace { let s = self.now in IsTrace s.tables.now s.weights.now s.rule.now.steps (seed_of s.pool.now group) s.pool.now.size out.new.trace }
+        ensures same { scratch.new ≡ scratch.old }
+    {
+        let seed = self.pool.seed_of(group);
+        let size = self.pool.parts().size;
+        run_rule(
+            self.tables,
+            scratch,
+            self.rule,
+            seed,
+            size,
+            self.weights,
+            out,
+        );
+    }
+
+    /// Sets `up` to the up list of a group, by what the rule answered for it. Only where the group
+    /// has exceptions they are applied, to a copy of the answer. `Err(AllocError)`: an allocation
+    /// failed.
+    #[tactic(auto, using(crate::proofs::Pairs::nothing_excepted))]
+    pub(crate) fn set_up(
+        &self,
+        up: &mut Vec<Slot>,
+        group: u32,
+        raw: &[Slot],
+    ) -> Result<(), AllocError>
+        requires { length raw.now ≤ SIZE_LIMIT }
+        ensures { let s = self.now in OnOk result (up.new.items ≡ spec.up_of s.pool.now.erasure s.flags.now (excepted s.tables.now s.weights.now s.exceptions.now group raw.now)) }
+    {
+        let erasure = self.pool.parts().erasure;
+        if self.exceptions.concern(group) {
+            let changed = Excepted::new(self.tables, self.weights, self.exceptions, group, raw);
+            set_up_of(up, erasure, self.flags, changed.items())
+        } else {
+            set_up_of(up, erasure, self.flags, raw)
+        }
+    }
+
+    /// Makes the placement of a group by what the rule answered for it.
+    pub(crate) fn placement_by(
+        &self,
+        alloc: Global,
+        group: u32,
+        raw: &[Slot],
+    ) -> Result<Placement, AllocError>
+        requires { length raw.now ≤ SIZE_LIMIT }
+        ensures seed { IfOk result (λ p. p.seed ≡ seed_of self.now.pool.now group) }
+        ensures raw { IfOk result (λ p. p.raw ≡ raw.now) }
+        ensures up { let s = self.now in IfOk result (λ p. p.up ≡ spec.up_of s.pool.now.erasure s.flags.now (excepted s.tables.now s.weights.now s.exceptions.now group raw.now)) }
+        ensures primary { IfOk result (λ p. p.primary ≡ spec.primary_of p.up) }
+    {
+        let copy = copied(alloc, raw)?;
+        let mut up = Vec::with_capacity(alloc, raw.len())?;
+        self.set_up(&mut up, group, raw)?;
+        let primary = primary_of(&up);
+        Ok(Placement {
+            seed: self.pool.seed_of(group),
+            raw: Listed::new(copy),
+            up: Listed::new(up),
+            primary,
+        })
+    }
 }
 
 /// Places a group of a pool with exceptions, or answers `P2` where the pool has no such group.
@@ -202,17 +207,16 @@ pub fn place(
     if group >= pool.parts().pg_num {
         return Ok(Err(PoolFault::P2));
     }
-    let mut out = Out::build(alloc)?;
-    run(tables, scratch, pool, rule, weights, group, &mut out);
-    let placement = placement_by(
-        alloc,
+    let placing = Placing {
         tables,
+        rule,
         weights,
+        flags: states,
         pool,
         exceptions,
-        states,
-        group,
-        out.items(),
-    )?;
+    };
+    let mut out = Out::build(alloc)?;
+    placing.run(scratch, &mut out, group);
+    let placement = placing.placement_by(alloc, group, out.items())?;
     Ok(Ok(placement))
 }

@@ -1,8 +1,8 @@
 -- What queries leave, and what they answer.
-use Rattle.std.proofs.Common.{◌≡◌, ◌≢◌, inl, inr, ℕ, ℤ, List, [], ◌∷◌, map, codes, false, Option, Some, None, Result, Ok, Err, IfOk, IfSome, refl, sym, ap, subst, ◌∙◌, arith}
+use Rattle.std.proofs.Common.{◌≡◌, ◌≢◌, inl, inr, ℕ, ℤ, List, [], ◌∷◌, map, codes, Option, Some, None, Result, Ok, Err, IfOk, IfSome, refl, sym, ap, subst, ◌∙◌, arith}
 use Rattle.std.specs.List.Sorted.{IsPermutation}
 use Rattle.std.proofs.lemmas.List.Sorted.{IsPermutation-map, length_permutation}
-use Rattle.sqlite_value.specs.declared.value.Value.TheVariants.{Null, Int, Text as Words}
+use Rattle.sqlite_value.specs.declared.value.Value.TheVariants.{Int, Text as Words}
 use Rattle.sqlite_trees.specs.Tree.{Trees}
 use Rattle.table_schema.specs.declared.find.Tenant.{Tenant}
 use Rattle.table_schema.specs.declared.fault.ReadFault.{ReadFault}
@@ -12,16 +12,17 @@ use Rattle.sqlite_tied.specs.Compute.{everything}
 use Rattle.sqlite.specs.Query.{Query, IsAnswer, Output, output}
 use Rattle.sqlite.specs.Program.{overlay}
 use Rattle.sqlite.specs.Term.{col}
-use Rattle.sqlite.specs.Command.TheVariants.{Select}
-use Rattle.sqlite.specs.Listing.{understood, reads_listing}
+use Rattle.sqlite.specs.Listing.{understood}
 use Rattle.sqlite.specs.State.{State, Shown, IsUnchanged}
-use Rattle.sqlite.proofs.Callers.{IsPlain, command_of, reads_as, one_permutation}
+use Rattle.sqlite.proofs.Callers.{one_permutation}
 use Rattle.table_schema.specs.Layout.{store_schema}
 use Rattle.table_schema.specs.Holds.{rows_with, tenants_of, AreTables}
 use Rattle.table_schema.specs.declared.schema.Layout.{Layout}
 use Rattle.table_schema.specs.declared.schema.Layout.TheVariants.{Compact, Gapped}
 use Rattle.table_schema.proofs.Places.{places}
+use Rattle.table_schema.specs.Asked.{IsAnswered}
 use Rattle.table_schema.specs.Found.{head_of, Names}
+use Rattle.table_schema.proofs.Answering.{Means, answer_of, is_answered, never_refused}
 use Rattle.table_schema.specs.Ready.{Rests, IsReady, Remains}
 use Rattle.table_schema.proofs.Queries.{plain_query, equals, staged_is}
 use Rattle.sqlite.specs.Effect.{Database, IsDatabase}
@@ -64,19 +65,19 @@ find_text = codes "SELECT id, epoch FROM tenants WHERE name = ?1"
 abbrev pub find_query : Query
 find_query = plain_query 1 (equals 2 0 ∷ []) (col 1 0 ∷ col 1 3 ∷ [])
 
-pub find_is : (layout : Layout) → (command_of (understood (store_schema layout) find_text) ≡ Select (record { lets = []; body = find_query }) (codes "id" ∷ codes "epoch" ∷ []))
-    × (reads_listing (store_schema layout) find_text ≡ false) × IsPlain (understood (store_schema layout) find_text)
+find_means : (name : List ℕ) (layout : Layout) → Means layout find_text (Words name ∷ []) find_query (codes "id" ∷ codes "epoch" ∷ [])
 unfolding understood everything
-find_is Compact = (refl, refl, (refl, refl))
-find_is Gapped = (refl, refl, (refl, refl))
+find_means name Compact = record { command = refl; listing = refl; plain = (refl, refl); answered = (omega arith, refl, refl, refl, never_refused _ find_query (store_schema Compact) (Words name ∷ []) refl refl refl) }
+find_means name Gapped = record { command = refl; listing = refl; plain = (refl, refl); answered = (omega arith, refl, refl, refl, never_refused _ find_query (store_schema Gapped) (Words name ∷ []) refl refl refl) }
+
+pub find_answered : (name : List ℕ) → IsAnswered find_text (Words name ∷ [])
+find_answered name = is_answered find_text _ (λ _. find_query) _ (find_means name)
 
 pub finds : (old new : State) (name : List ℕ) (rows : List Row) → IsReady old → Shown find_text (Words name ∷ []) old new rows → IsPermutation (map head_of (tenants_of old.now.trees name)) rows
 finds old new name rows ready h =
     let params : Row = Words name ∷ [] in
     let layout = ready.schema.0 in
-    let its = find_is layout in
-    let got = reads_as find_text params old new (store_schema layout) ready.schema.1 _ its.0 its.2 its.1 rows h in
-    let a : IsAnswer find_query (overlay old.now.trees []) params rows = got.answer Null in
+    let a : IsAnswer find_query (overlay old.now.trees []) params rows = answer_of find_text params (λ _. find_query) _ (find_means name) old new rows ready h in
     let here : List Row = rows_with 2 (Words name) (old.now.trees 1) in
     let staged = a.grouped ∙ staged_is params _ (old.now.trees 1) in
     let kept : map (λ (o : Output). o.1) a.kept ≡ map head_of here =

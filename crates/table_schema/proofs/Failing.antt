@@ -1,5 +1,5 @@
 -- A query that no database of the tables refuses fails only for want of memory, or by the disk.
-use Rattle.std.proofs.Common.{◌≡◌, ◌≢◌, ◌⊎◌, ◌≤◌, inl, inr, ℕ, List, [], length, false, None, IsTrue, Ok, Err, Result, sym, subst, ap, refl, ◌∙◌, append-nil, arith}
+use Rattle.std.proofs.Common.{◌≡◌, ◌≢◌, ◌⊎◌, ◌≤◌, inl, inr, ℕ, List, None, IsTrue, Ok, Err, Result, sym, subst, ap, refl, ◌∙◌, append-nil, arith}
 use Rattle.sqlite_disk.specs.Disk.{MoreFaults}
 use Rattle.sqlite_value.specs.Order.{Row}
 use Rattle.sqlite_trees.specs.Tree.{Trees}

@@ -4,6 +4,7 @@ pub mod Tested
 pub mod Places
 mod Looking
 pub mod QueryFacts
+pub mod Answering
 pub mod Asking
 pub mod RowLengths
 pub mod Rising
@@ -11,4 +12,3 @@ pub mod Listing
 pub mod Paging
 pub mod Placing
 pub mod Failing
-pub mod Safe

@@ -27,20 +27,20 @@ use Rattle.sqlite_tied.specs.Compute.{everything}
 use Rattle.sqlite.specs.Query.{Query, IsAnswer, Output, output, inner, end}
 use Rattle.sqlite.specs.Program.{overlay}
 use Rattle.sqlite.specs.Term.{Term, lit, col}
-use Rattle.sqlite.specs.Command.TheVariants.{Select}
-use Rattle.sqlite.specs.Listing.{understood, reads_listing}
+use Rattle.sqlite.specs.Listing.{understood}
 use Rattle.sqlite.specs.State.{State, Shown}
-use Rattle.sqlite.proofs.Callers.{IsPlain, command_of, reads_as}
 use Rattle.table_schema.specs.declared.schema.Layout.{Layout}
 use Rattle.table_schema.specs.declared.schema.Layout.TheVariants.{Compact, Gapped}
 use Rattle.table_schema.specs.Layout.{store_schema, receipts_tree, receipts_table}
 use Rattle.table_schema.specs.Holds.{rows_with, values_of, of_tenant}
+use Rattle.table_schema.specs.Asked.{IsAnswered}
 use Rattle.table_schema.specs.Ready.{IsReady}
+use Rattle.table_schema.proofs.Answering.{Means, answer_of, is_answered, never_refused}
 use Rattle.table_schema.proofs.Places.{places, read}
 use Rattle.table_schema.proofs.Queries.{equals, staged_is, staged_are}
-use Rattle.table_schema.proofs.Listing.{by_key, back, no_tie, filter_two}
+use Rattle.table_schema.proofs.Listing.{with_key, first_value, back, no_tie, filter_two}
 use Rattle.sqlite_keyed.proofs.ListLemmas.{all_weaker, all_of, all_map, filter-map, filter_same, ascending-map, ascending_from_map, ascending_weaker}
-use Rattle.table_schema.specs.Found.{IsRising, Lists, AreFirst, Begins, IsPageOf, rows_above}
+use Rattle.table_schema.specs.Found.{IsBelow, IsRising, Lists, AreFirst, Begins, IsPageOf, rows_above}
 use Rattle.table_schema.proofs.Rising.{from_neighbours}
 
 all_front : {X : Type 0} (P : X → Type 0) (xs ys : List X) → AllByRecursion P (xs ++ ys) → AllByRecursion P xs
@@ -64,16 +64,13 @@ below_last : {X : Type 0} (R : X → X → Type 0) (xs : List X) (last : X) → 
 below_last R [] last up = tt
 below_last R (x ∷ xs) last up = ((all_back (R x) xs (last ∷ []) up.0).0, below_last R xs last up.1)
 
-abbrev Below : Row → Row → Type 0
-Below a b = value_cmp (column a 0) (column b 0) ≡ Less
-
 abbrev AtMost : Row → Row → Type 0
 AtMost a b = is_gt (value_cmp (column a 0) (column b 0)) ≡ false
 
-below_then : (a b c : Row) → Below a b → AtMost b c → Below a c
+below_then : (a b c : Row) → IsBelow a b → AtMost b c → IsBelow a c
 below_then a b c less most = go (value_cmp (column b 0) (column c 0)) refl
   where
-    go : (o : Ordering) → value_cmp (column b 0) (column c 0) ≡ o → Below a c
+    go : (o : Ordering) → value_cmp (column b 0) (column c 0) ≡ o → IsBelow a c
     go Less e = value_cmp_total.trans _ _ _ less e
     go Equal e = sym (alike_right value_cmp_total (column b 0) (column c 0) (column a 0) e) ∙ less
     go Greater e = absurd (true≢false (sym (ap is_gt e) ∙ most))
@@ -88,19 +85,19 @@ begins all rows page first it = go it.split
           rest = [];
           same = subst₂ (λ r s. IsPermutation all (r ++ s)) whole.0 none first.same;
           rising = subst IsRising whole.0 it.rising;
-          above = all_of (λ row. AllByRecursion (Below row) []) (λ row. tt) page;
+          above = all_of (λ row. AllByRecursion (IsBelow row) []) (λ row. tt) page;
           whole = inl refl;
         }
     go (inr (last, split, full)) =
         let up : IsRising (page ++ last ∷ []) = subst IsRising split it.rising in
         let joined : rows ++ first.rest ≡ page ++ last ∷ first.rest = ap (λ r. r ++ first.rest) split ∙ append_assoc page (last ∷ []) first.rest in
         let later : AllByRecursion (AtMost last) first.rest = (back_rises AtMost page (last ∷ first.rest) (subst (IsAscending AtMost) joined first.sorted)).0 in
-        let below = below_last Below page last up in
+        let below = below_last IsBelow page last up in
         record {
           rest = last ∷ first.rest;
           same = subst (IsPermutation all) joined first.same;
-          rising = front_rises Below page (last ∷ []) up;
-          above = all_weaker (λ row. Below row last) (λ row. AllByRecursion (Below row) (last ∷ first.rest)) (λ row less. (less, all_weaker (AtMost last) (Below row) (λ z most. below_then row last z less most) first.rest later)) page below;
+          rising = front_rises IsBelow page (last ∷ []) up;
+          above = all_weaker (λ row. IsBelow row last) (λ row. AllByRecursion (IsBelow row) (last ∷ first.rest)) (λ row less. (less, all_weaker (AtMost last) (IsBelow row) (λ z most. below_then row last z less most) first.rest later)) page below;
           whole = inr (long full first.short (ap length split));
         }
       where
@@ -110,7 +107,7 @@ begins all rows page first it = go it.split
 pub begins_none : (IsOne : Row → Type 0) (most : ℕ) (all rows : List Row) → AreFirst most all rows → (AllByRecursion IsOne rows → IsRising rows → ⊥) → (list : List Row) → AllByRecursion IsOne list → Lists all list → ⊥
 begins_none IsOne most all rows first none list each is =
     let same = first.in_order list is in
-    none (all_front IsOne rows first.rest (subst (AllByRecursion IsOne) (sym same) each)) (front_rises Below rows first.rest (subst IsRising (sym same) is.rising))
+    none (all_front IsOne rows first.rest (subst (AllByRecursion IsOne) (sym same) each)) (front_rises IsBelow rows first.rest (subst IsRising (sym same) is.rising))
 
 -- ---- the queries
 
@@ -146,7 +143,7 @@ sorted_rises cmp total xs sorted =
     let same : get_or xs (suc i) e ≡ get_or xs (i + 1) d = get_or_default xs (suc i) e d in_it ∙ ap (λ k. get_or xs k d) next in
     subst (λ y. is_gt (cmp (get_or xs i d) y) ≡ false) (sym same) (ap is_gt (total.antisymm (get_or xs i d) (get_or xs (i + 1) d)) ∙ turned _ near))
 
-keyed_list : (os : List Output) → AllByRecursion (λ o. o ≡ by_key o.1) os → os ≡ map by_key (map (λ (o : Output). o.1) os)
+keyed_list : (os : List Output) → AllByRecursion (λ o. o ≡ with_key first_value o.1) os → os ≡ map (with_key first_value) (map (λ (o : Output). o.1) os)
 keyed_list [] all = refl
 keyed_list (o ∷ os) all = ap₂ ◌∷◌ all.0 (keyed_list os all.1)
 
@@ -157,32 +154,32 @@ cut (suc n) (r ∷ rows) =
     let it = cut n rows in
     (omega (arith, it.0), elim it.1 [ inl none ↦ inl none | inr full ↦ inr (ap suc full) ])
 
-first_of : (tree : ℕ) (filter : List Term) (params : Row) (all rows : List Row) (db : Trees) (a : IsAnswer (page_query tree filter) (overlay db []) params rows) → a.kept ≡ map by_key all → AreFirst 17 all rows
+first_of : (tree : ℕ) (filter : List Term) (params : Row) (all rows : List Row) (db : Trees) (a : IsAnswer (page_query tree filter) (overlay db []) params rows) → a.kept ≡ map (with_key first_value) all → AreFirst 17 all rows
 first_of tree filter params all rows db a kept =
     let q = page_query tree filter in
     let os = a.ordered in
     let list : List Row = map (λ (o : Output). o.1) os in
-    let mixed : IsPermutation (map by_key all) os = subst (λ k. IsPermutation k os) kept a.same in
+    let mixed : IsPermutation (map (with_key first_value) all) os = subst (λ k. IsPermutation k os) kept a.same in
     let shown : rows ≡ take 17 list = a.shown in
     let split : rows ++ drop 17 list ≡ list = ap (λ r. r ++ drop 17 list) shown ∙ take-append-drop 17 list in
-    let keyed : os ≡ map by_key list = keyed_list os (recursion_from_All (λ o. o ≡ by_key o.1) os (All-permutation (λ o. o ≡ by_key o.1) (map by_key all) os mixed (All-from_recursion (λ o. o ≡ by_key o.1) (map by_key all) (all_map (λ o. o ≡ by_key o.1) by_key all (all_of (λ r. by_key r ≡ by_key r) (λ r. refl) all))))) in
-    let up : IsAscending (λ a b. is_gt (output_cmp q a b) ≡ false) (map by_key list) = subst (IsAscending (λ a b. is_gt (output_cmp q a b) ≡ false)) keyed (sorted_rises (output_cmp q) (output_cmp_total q) os a.sorted) in
-    let rises : IsAscending AtMost list = ascending_weaker _ AtMost (λ a b. untied (value_cmp (column a 0) (column b 0))) list (ascending_from_map (λ a b. is_gt (output_cmp q a b) ≡ false) by_key list up) in
+    let keyed : os ≡ map (with_key first_value) list = keyed_list os (recursion_from_All (λ o. o ≡ with_key first_value o.1) os (All-permutation (λ o. o ≡ with_key first_value o.1) (map (with_key first_value) all) os mixed (All-from_recursion (λ o. o ≡ with_key first_value o.1) (map (with_key first_value) all) (all_map (λ o. o ≡ with_key first_value o.1) (with_key first_value) all (all_of (λ r. with_key first_value r ≡ with_key first_value r) (λ r. refl) all))))) in
+    let up : IsAscending (λ a b. is_gt (output_cmp q a b) ≡ false) (map (with_key first_value) list) = subst (IsAscending (λ a b. is_gt (output_cmp q a b) ≡ false)) keyed (sorted_rises (output_cmp q) (output_cmp_total q) os a.sorted) in
+    let rises : IsAscending AtMost list = ascending_weaker _ AtMost (λ a b. untied (value_cmp (column a 0) (column b 0))) list (ascending_from_map (λ a b. is_gt (output_cmp q a b) ≡ false) (with_key first_value) list up) in
     let cuts = cut 17 list in
     record {
       rest = drop 17 list;
       short = subst (λ r. length r ≤ 17) (sym shown) cuts.0;
-      same = subst (IsPermutation all) (sym split) (subst (λ l. IsPermutation l list) (back all) (IsPermutation-map (λ (o : Output). o.1) _ os mixed));
+      same = subst (IsPermutation all) (sym split) (subst (λ l. IsPermutation l list) (back first_value all) (IsPermutation-map (λ (o : Output). o.1) _ os mixed));
       sorted = subst (IsAscending AtMost) (sym split) rises;
       in_order = λ ys is.
-          let theirs = IsPermutation-trans _ _ _ (IsPermutation-sym _ _ (IsPermutation-map by_key _ _ is.same)) mixed in
-          let ordered = sorted_unique (output_cmp q) (output_cmp_total q) (map by_key ys) os (rising_keys filter ys is.rising) theirs a.sorted in
-          split ∙ ap (map (λ (o : Output). o.1)) ordered ∙ back ys;
+          let theirs = IsPermutation-trans _ _ _ (IsPermutation-sym _ _ (IsPermutation-map (with_key first_value) _ _ is.same)) mixed in
+          let ordered = sorted_unique (output_cmp q) (output_cmp_total q) (map (with_key first_value) ys) os (rising_keys filter ys is.rising) theirs a.sorted in
+          split ∙ ap (map (λ (o : Output). o.1)) ordered ∙ back first_value ys;
       whole = elim cuts.1 [ inl none ↦ inl none | inr full ↦ inr (ap length shown ∙ full) ];
     }
   where
-    rising_keys : (filter : List Term) (ys : List Row) → IsRising ys → IsAscending (λ a b. output_cmp (page_query tree filter) a b ≡ Less) (map by_key ys)
-    rising_keys filter ys up = ascending-map _ by_key ys (ascending_weaker (λ a b. value_cmp (column a 0) (column b 0) ≡ Less) _ (λ a b. no_tie a b) ys up)
+    rising_keys : (filter : List Term) (ys : List Row) → IsRising ys → IsAscending (λ a b. output_cmp (page_query tree filter) a b ≡ Less) (map (with_key first_value) ys)
+    rising_keys filter ys up = ascending-map _ (with_key first_value) ys (ascending_weaker (λ a b. value_cmp (column a 0) (column b 0) ≡ Less) _ (λ a b. no_tie a b) ys up)
 
 abbrev pub first_text : List ℕ
 first_text = codes "SELECT request, path, body, status, reply FROM receipts WHERE tenant = ?1 ORDER BY request LIMIT 17"
@@ -190,26 +187,27 @@ first_text = codes "SELECT request, path, body, status, reply FROM receipts WHER
 abbrev receipt_names : List (List ℕ)
 receipt_names = codes "request" ∷ codes "path" ∷ codes "body" ∷ codes "status" ∷ codes "reply" ∷ []
 
-pub first_is : (layout : Layout) → (command_of (understood (store_schema layout) first_text) ≡ Select (record { lets = []; body = page_query (receipts_tree layout) (equals 1 0 ∷ []) }) receipt_names)
-    × (reads_listing (store_schema layout) first_text ≡ false) × IsPlain (understood (store_schema layout) first_text)
+first_means : (id : ℤ) (layout : Layout) → Means layout first_text (Int id ∷ []) (page_query (receipts_tree layout) (equals 1 0 ∷ [])) receipt_names
 unfolding understood everything
-first_is Compact = (refl, refl, (refl, refl))
-first_is Gapped = (refl, refl, (refl, refl))
+first_means id Compact = record { command = refl; listing = refl; plain = (refl, refl); answered = (omega arith, refl, refl, refl, never_refused _ (page_query (receipts_tree Compact) (equals 1 0 ∷ [])) (store_schema Compact) (Int id ∷ []) refl refl refl) }
+first_means id Gapped = record { command = refl; listing = refl; plain = (refl, refl); answered = (omega arith, refl, refl, refl, never_refused _ (page_query (receipts_tree Gapped) (equals 1 0 ∷ [])) (store_schema Gapped) (Int id ∷ []) refl refl refl) }
+
+pub first_answered : (id : ℤ) → IsAnswered first_text (Int id ∷ [])
+first_answered id = is_answered first_text _ (λ layout. page_query (receipts_tree layout) (equals 1 0 ∷ [])) _ (first_means id)
 
 pub reads_first : (id : ℤ) (old new : State) (rows : List Row) → IsReady old → Shown first_text (Int id ∷ []) old new rows → AreFirst 17 (of_tenant receipts_table id old.now.trees) rows
 reads_first id old new rows ready h =
     let params : Row = Int id ∷ [] in
     let layout = ready.schema.0 in
     let tree = receipts_tree layout in
-    let its = first_is layout in
     let q = page_query tree (equals 1 0 ∷ []) in
-    let a : IsAnswer q (overlay old.now.trees []) params rows = (reads_as first_text params old new (store_schema layout) ready.schema.1 _ its.0 its.2 its.1 rows h).answer Null in
+    let a : IsAnswer q (overlay old.now.trees []) params rows = answer_of first_text params (λ layout. page_query (receipts_tree layout) (equals 1 0 ∷ [])) _ (first_means id) old new rows ready h in
     let all = overlay old.now.trees [] tree in
     let staged = a.grouped ∙ staged_is params _ all in
     let own : List Row → List Row = λ here. map (values_of receipts_table) (rows_with 1 (Int id) here) in
     subst (λ here. AreFirst 17 (own here) rows) ((read layout old.now.trees).receipts ∙ ap old.now.trees (sym (places layout old.now ready.sound ready.schema.1).receipts))
     (first_of tree (equals 1 0 ∷ []) params (own all) rows old.now.trees a
-    (a.distinct ∙ ap (map (output q)) staged ∙ map-map (output q) (λ (r : Row). params ∷ r ∷ []) _ ∙ sym (map-map by_key (values_of receipts_table) _)))
+    (a.distinct ∙ ap (map (output q)) staged ∙ map-map (output q) (λ (r : Row). params ∷ r ∷ []) _ ∙ sym (map-map (with_key first_value) (values_of receipts_table) _)))
 
 abbrev pub next_text : List ℕ
 next_text = codes "SELECT request, path, body, status, reply FROM receipts WHERE tenant = ?1 AND request > ?2 ORDER BY request LIMIT 17"
@@ -217,11 +215,13 @@ next_text = codes "SELECT request, path, body, status, reply FROM receipts WHERE
 abbrev pub above_term : Term
 above_term = op2 (Compare Gt Binary) (col 1 2) (col 0 1)
 
-pub next_is : (layout : Layout) → (command_of (understood (store_schema layout) next_text) ≡ Select (record { lets = []; body = page_query (receipts_tree layout) (equals 1 0 ∷ above_term ∷ []) }) receipt_names)
-    × (reads_listing (store_schema layout) next_text ≡ false) × IsPlain (understood (store_schema layout) next_text)
+next_means : (id : ℤ) (after : List ℕ) (layout : Layout) → Means layout next_text (Int id ∷ Words after ∷ []) (page_query (receipts_tree layout) (equals 1 0 ∷ above_term ∷ [])) receipt_names
 unfolding understood everything
-next_is Compact = (refl, refl, (refl, refl))
-next_is Gapped = (refl, refl, (refl, refl))
+next_means id after Compact = record { command = refl; listing = refl; plain = (refl, refl); answered = (omega arith, refl, refl, refl, never_refused _ (page_query (receipts_tree Compact) (equals 1 0 ∷ above_term ∷ [])) (store_schema Compact) (Int id ∷ Words after ∷ []) refl refl refl) }
+next_means id after Gapped = record { command = refl; listing = refl; plain = (refl, refl); answered = (omega arith, refl, refl, refl, never_refused _ (page_query (receipts_tree Gapped) (equals 1 0 ∷ above_term ∷ [])) (store_schema Gapped) (Int id ∷ Words after ∷ []) refl refl refl) }
+
+pub next_answered : (id : ℤ) (after : List ℕ) → IsAnswered next_text (Int id ∷ Words after ∷ [])
+next_answered id after = is_answered next_text _ (λ layout. page_query (receipts_tree layout) (equals 1 0 ∷ above_term ∷ [])) _ (next_means id after)
 
 -- as SQL tests it
 abbrev is_above : List ℕ → Value → Bool
@@ -245,10 +245,9 @@ reads_next id after old new rows ready h =
     let params : Row = Int id ∷ Words after ∷ [] in
     let layout = ready.schema.0 in
     let tree = receipts_tree layout in
-    let its = next_is layout in
     let filters = equals 1 0 ∷ above_term ∷ [] in
     let q = page_query tree filters in
-    let a : IsAnswer q (overlay old.now.trees []) params rows = (reads_as next_text params old new (store_schema layout) ready.schema.1 _ its.0 its.2 its.1 rows h).answer Null in
+    let a : IsAnswer q (overlay old.now.trees []) params rows = answer_of next_text params (λ layout. page_query (receipts_tree layout) filters) _ (next_means id after) old new rows ready h in
     let all = overlay old.now.trees [] tree in
     let mine : Row → Bool = λ r. equal Binary (column r 1) (Int id) in
     let asked : Row → Bool = λ r. is_above after (column r 2) in
@@ -256,5 +255,5 @@ reads_next id after old new rows ready h =
     let above : List Row → List Row = λ here. rows_above after (map (values_of receipts_table) (rows_with 1 (Int id) here)) in
     subst (λ here. AreFirst 17 (above here) rows) ((read layout old.now.trees).receipts ∙ ap old.now.trees (sym (places layout old.now ready.sound ready.schema.1).receipts))
     (first_of tree filters params (above all) rows old.now.trees a
-    (a.distinct ∙ ap (map (output q)) staged ∙ map-map (output q) (λ (r : Row). params ∷ r ∷ []) _ ∙ sym (map-map by_key (values_of receipts_table) _)
-    ∙ ap (map by_key) (sym (filter-map (λ row. is_gt (value_cmp (column row 0) (Words after))) (values_of receipts_table) (rows_with 1 (Int id) all)))))
+    (a.distinct ∙ ap (map (output q)) staged ∙ map-map (output q) (λ (r : Row). params ∷ r ∷ []) _ ∙ sym (map-map (with_key first_value) (values_of receipts_table) _)
+    ∙ ap (map (with_key first_value)) (sym (filter-map (λ row. is_gt (value_cmp (column row 0) (Words after))) (values_of receipts_table) (rows_with 1 (Int id) all)))))

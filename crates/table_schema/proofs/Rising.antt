@@ -1,11 +1,9 @@
 -- Lists that rise from each element to the next.
-use Rattle.std.proofs.Common.{◌≡◌, ◌⊎◌, inl, inr, ℕ, ℤ, suc, zero, ◌<◌, ◌-◌, List, [], ◌∷◌, length, get_or, Bool, true, false, T, IsTrue, Ordering, Less, Equal, Greater, is_lt, nat_cmp, true≢false, refl, sym, ap, subst, subst₂, ◌∙◌, arith}
+use Rattle.std.proofs.Common.{◌≡◌, ℕ, ℤ, suc, zero, ◌<◌, ◌-◌, List, [], ◌∷◌, length, get_or, Bool, true, false, T, IsTrue, Ordering, Less, Equal, Greater, is_lt, nat_cmp, true≢false, refl, sym, ap, subst, ◌∙◌, arith}
 use Rattle.std.specs.Int.Signed.{lt_z, lt_z_yes, ◌<ℤ◌}
 use Rattle.std.specs.Cmp.Lexicographic.{slice_cmp}
 use Rattle.std.specs.Ordering.{MatchOrdering}
 use Rattle.std.specs.Cmp.{int_cmp_is, int_ranks}
-use Rattle.std.proofs.lemmas.Bool.{cases_order}
-use Rattle.std.proofs.lemmas.List.{get_or_default}
 use Rattle.sqlite_value.specs.declared.value.Value.TheVariants.{Int, Text as Words}
 use Rattle.sqlite_value.specs.Order.{value_cmp}
 use Rattle.sqlite_value.proofs.OrderLemmas.{value_cmp-Int, value_cmp-Text}

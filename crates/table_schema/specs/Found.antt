@@ -28,9 +28,14 @@ Names db name (Some tenant) =
 
 -- ---- the rows of a tenant, as values behind its number
 
--- The first values rise strictly, as SQL orders values: integers as numbers, texts by their bytes.
+-- a row comes before another by its first value, as SQL orders values: integers as numbers, texts
+-- by their bytes
+abbrev pub IsBelow : Row → Row → Type 0
+IsBelow a b = value_cmp (column a 0) (column b 0) ≡ Less
+
+-- the first values rise strictly
 abbrev pub IsRising : List Row → Type 0
-IsRising = IsAscending (λ a b. value_cmp (column a 0) (column b 0) ≡ Less)
+IsRising = IsAscending IsBelow
 
 -- the list has each row of `all` once, in the order `Before`
 pub record ListsBy (Before : Row → Row → Type 0) (all list : List Row) : Type 0 where
@@ -39,7 +44,7 @@ pub record ListsBy (Before : Row → Row → Type 0) (all list : List Row) : Typ
 
 -- the same in the order of the keys
 abbrev pub Lists : List Row → List Row → Type 0
-Lists = ListsBy (λ a b. value_cmp (column a 0) (column b 0) ≡ Less)
+Lists = ListsBy IsBelow
 
 -- a row comes before another by its first value, and where those are equal by its second
 abbrev pub Precedes : Row → Row → Type 0
@@ -112,19 +117,21 @@ pub record AreOrderedBy (Before : Row → Row → Type 0) (all rows : List Row) 
   pub same : IsPermutation all rows
   pub in_order : (list : List Row) → ListsBy Before all list → rows ≡ list
 
-abbrev pub AreOrdered : List Row → List Row → Type 0
-AreOrdered = AreOrderedBy (λ a b. value_cmp (column a 0) (column b 0) ≡ Less)
-
 -- the rows whose first value is above a text, as SQL orders values
 abbrev pub rows_above : List ℕ → List Row → List Row
 rows_above after rows = filter (λ row. is_gt (value_cmp (column row 0) (Words after))) rows
+
+-- those rows, or all of them where there is no text
+abbrev pub rows_behind : Option (List ℕ) → List Row → List Row
+rows_behind None rows = rows
+rows_behind (Some after) rows = rows_above after rows
 
 -- The page is the first `most` rows of `all` in the order of the keys, or all of them.
 pub record Begins (most : ℕ) (all page : List Row) : Type 0 where
   pub rest : List Row
   pub same : IsPermutation all (page ++ rest)
   pub rising : IsRising page
-  pub above : AllByRecursion (λ row. AllByRecursion (λ later. value_cmp (column row 0) (column later 0) ≡ Less) rest) page
+  pub above : AllByRecursion (λ row. AllByRecursion (IsBelow row) rest) page
   pub whole : (rest ≡ []) ⊎ (length page ≡ most)
 
 -- The rows are the first `most` rows of `all` in an order of the keys, or all of them. The order is

@@ -5,6 +5,8 @@ pub mod Ready
 pub mod Refused
 pub mod Found
 pub mod Asked
+pub mod Reads
+pub mod Orders
 -- for the clauses of the crates above, which name these through this crate
 pub use Rattle.sqlite_catalog
 pub use Rattle.sqlite_keyed

@@ -4,7 +4,6 @@
 
 mod ask;
 mod columns;
-pub mod exceptions;
 pub mod fault;
 pub mod find;
 pub mod first;

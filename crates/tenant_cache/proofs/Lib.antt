@@ -1,5 +1,6 @@
 pub mod ContentFacts
 pub mod Following
+pub mod FoundFacts
 pub mod LengthFacts
 pub mod Loading
 pub mod NameFacts

@@ -1,82 +1,12 @@
--- Numbers that are kept beside what tenants have, and placements by them.
-use Rattle.std.proofs.Common.{◌≡◌, ◌≢◌, ◌↔◌, ◌∙◌, ◌⊎◌, ◌==◌, inl, inr, ℕ, List, [], ◌∷◌, find, Bool, true, false, nat_lt, if◌then◌else◌, ok_or, option_map, Contains, Option, Some, None, Ok, refl, sym, ap, subst, eqb-true}
-use Rattle.std.specs.declared.alloc.Global.{Global}
-use Rattle.std.specs.declared.rc.Rc.{Rc}
+-- Numbers that are kept beside what tenants have.
+use Rattle.std.proofs.Common.{◌≡◌, ◌≢◌, ◌↔◌, ◌∙◌, ◌⊎◌, inl, inr, ℕ, List, [], Contains, Option, Some, None, sym, ap, subst}
 use Rattle.lru.proofs.Splits.{Contains-nil}
-use Rattle.crush_map.specs.Map.{Map}
-use Rattle.crush_map.specs.declared.draft.Rule.{Rule}
-use Rattle.crush_pool.specs.Placements.{placement, rule_numbered}
-use Rattle.crush_pool.specs.Placers.{PoolOnMap}
-use Rattle.crush_pool.specs.declared.placing.Placement.{Placement}
-use Rattle.crush_pool.specs.declared.pool.PoolParts.{PoolParts}
-use Rattle.crush_report.specs.Reports as reports
 use Rattle.crush_cache.specs.Caches.{KeepsNumbers, Numbered}
 use Rattle.crush_pool.specs.Contents.{content_of}
-use Rattle.tenant_core.specs.tenant_messages.specs.declared.reply.Problem.TheVariants.{NoRule}
-use Rattle.tenant_reports.specs.Impact as impact
-use Rattle.tenant_core.specs.tenant_resources.specs.Groups as groups
-use Rattle.tenant_state.specs.State.{Inventory, TenantPool, TenantState, if_there, newest, on_newest, on_version, pool, version}
-use Rattle.tenant_core.specs.Cached.{Asks, IsCachedFor}
+use Rattle.tenant_state.specs.State.{TenantPool, TenantState, pool}
 use Rattle.tenant_core.specs.States.{HasInventory, Same, States}
-use Rattle.tenant_core.specs.declared.cached.Asked.{Asked}
-use Rattle.tenant_core.specs.declared.cached.Asked.TheVariants as asked
-use Rattle.tenant_core.specs.declared.cached.Cached.TheVariants.{Placed, Touched}
-use Rattle.tenant_core.specs.declared.queries.Query.{Query}
-use Rattle.tenant_core.specs.declared.queries.Query.TheVariants.{Exceptions, Group, Impact, Moves, Object, Pick, Test, Usage, Version}
 use Rattle.tenant_cache.specs.Kept.{Kept, Ready, Updates, kept_at}
 use Rattle.tenant_cache.specs.Ready.{AreKnown, AreNumbersOf, AreTrue, HasNumber, IsWithNumber, Renumbers}
-
--- ---- the pool of a query
-
-found-passes : {A : Type 0} (test : A → Bool) (xs : List A) (x : A) → find test xs ≡ Some x → test x ≡ true
-found-passes test [] x h = cc
-found-passes test (y ∷ ys) x h = at (test y) refl (found-passes test ys x) h
-  where
-    at : (b : Bool) → test y ≡ b → (find test ys ≡ Some x → test x ≡ true) → (if b then Some y else find test ys) ≡ Some x → test x ≡ true
-    at true is rest h = let same : y ≡ x = cc in subst (λ z. test z ≡ true) same is
-    at false is rest h = rest h
-
-own : (id : ℕ) (i : Inventory) (p : TenantPool) → pool id i ≡ Some p → pool p.parts.id i ≡ Some p
-own id i p h = subst (λ n. pool n i ≡ Some p) (sym (eqb-true p.parts.id id (found-passes (λ q. q.parts.id == id) i.pools p h))) h
-
--- it is the pool with its id
-pub asked_pool : (query : Query) (i : Inventory) (p : TenantPool) (it : Asked) → Asks query i p it → pool p.parts.id i ≡ Some p
-asked_pool (Group id g) i p it asks = own id i p asks.0
-asked_pool (Object id name) i p it asks = own id i p asks.0
-asked_pool (Impact id d) i p it asks = own id i p asks.0
-asked_pool (Moves id v w) i p it asks = own id i p asks.0
-asked_pool (Version v) i p it asks = absurd asks
-asked_pool (Exceptions q) i p it asks = absurd asks
-asked_pool (Usage q) i p it asks = absurd asks
-asked_pool (Pick pick) i p it asks = absurd asks
-asked_pool (Test test) i p it asks = absurd asks
-
--- ---- a pool on the newest version
-
-ruled : (m : Map) (i : Inventory) (q : TenantPool) (p : PoolOnMap) (o : Option Rule)
-    → ok_or (option_map (λ rule. record { map = m; states = i.devices; pool = q.parts; pairs = q.pairs }) o) NoRule ≡ Ok p → p ≡ record { map = m; states = i.devices; pool = q.parts; pairs = q.pairs }
-ruled m i q p None h = cc
-ruled m i q p (Some r) h = let same : Ok p ≡ Ok (record { map = m; states = i.devices; pool = q.parts; pairs = q.pairs }) = sym h in cc
-
-pool_of : (i : Inventory) (q : TenantPool) (p : PoolOnMap) (o : Option Map) → if_there i q o ≡ Ok p → p.pool ≡ q.parts
-pool_of i q p None h = cc
-pool_of i q p (Some m) h = ap (λ (r : PoolOnMap). r.pool) (ruled m i q p (rule_numbered m q.parts.rule) h)
-
--- the placement of a group by its rule is the one that the query asks for
-pub is_placed : (query : Query) (i : Inventory) (q : TenantPool) (p : PoolOnMap) (group : ℕ) (answer : Rc Placement Global) → on_newest i q ≡ Ok p
-    → placement p.map p.states p.pool p.pairs group ≡ Some answer.value → true ≡ nat_lt group p.pool.pg_num → Asks query i q (asked.Group group) → IsCachedFor query i (Placed group answer)
-is_placed query i q p group answer on by_rule below asks = (
-  q,
-  asks,
-  let inside : nat_lt group q.parts.pg_num ≡ true = sym (below ∙ ap (λ (r : PoolParts). nat_lt group r.pg_num) (pool_of i q p (version (newest i) i) on)) in
-      rw inside (ap (groups.on_map group) on ∙ ap (λ o. ok_or o NoRule) by_rule),
-)
-
--- the groups that a device can touch on the newest version are those that the query asks for
-pub is_touched : (query : Query) (i : Inventory) (q : TenantPool) (m : Map) (p : PoolOnMap) (number d : ℕ) (touched : List ℕ) → version (newest i) i ≡ Some m → on_version i q m ≡ Ok p
-    → impact.id_of p.map.devices number ≡ Some d → Some touched ≡ reports.impact p.map p.states p.pool p.pairs d → Asks query i q (asked.Device number) → IsCachedFor query i (Touched q.parts.id touched)
-is_touched query i q m p number d touched there on id of asks =
-    (q, number, asks, refl, ap (impact.on_map number) (ap (if_there i q) there ∙ on) ∙ (ap (impact.on_device p) id ∙ ap (λ o. ok_or o NoRule) (sym of)))
 
 -- ---- numbers of the cache
 

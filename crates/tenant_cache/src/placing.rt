@@ -1,8 +1,9 @@
 //! What is kept for queries of a tenant: placements of groups, and the values for reports.
 
-ghost use Rattle.std.specs.Prelude.{◌≡◌, ◌≤◌, ◌<◌, ◌⊎◌, ℕ, List, Contains, Some, IfSome};
+ghost use Rattle.std.specs.Prelude.{◌≡◌, ◌≤◌, ◌⊎◌, ℕ, List, Contains, Ok, Some, IfSome};
 ghost use Rattle.crush_cache.specs.Caches.{KeepsNumbers};
-ghost use Rattle.tenant_core.specs.Cached.{Asks, IsCachedFor};
+ghost use Rattle.tenant_core.specs.Cached.{Says, answer_on};
+ghost use Rattle.tenant_core.specs.tenant_resources.specs.Groups as groups;
 ghost use Rattle.tenant_cache.specs.Kept.{kept_at};
 ghost use Rattle.tenant_cache.specs.Ready.{AreNumbersOf, HasNumber, IsWithNumber, Renumbers};
 ghost use Rattle.tenant_state.specs.State.{pool as pool_at};
@@ -12,6 +13,7 @@ use crate::kept::Kept;
 use crate::ready::Ready;
 use crate::reports::{Reports, moved, touched};
 use crush_cache::PlacementCache;
+use crush_pool::Placement;
 use std::alloc::Global;
 use std::rc::Rc;
 use tenant_core::{Asked, Cached};
@@ -101,10 +103,10 @@ fn place(
     inventory: &Inventory,
     pool: &TenantPool,
     group: u32,
-) -> Option<Cached>
+) -> Option<Rc<Placement>>
     requires number { HasNumber cache.old inventory.now pool.now number }
     requires live { cache.old.first ≤ number }
-    ensures placed { IfSome result (λ r. (query : _) → Asks query inventory.now pool.now (Asked.Group group) → IsCachedFor query inventory.now r) }
+    ensures placed { IfSome result (λ r. groups.placed inventory.now pool.now group ≡ Ok r.value) }
     ensures same { cache.new ≡ cache.old }
 {
     let Ok(placer) = inventory.on_newest(pool) else {
@@ -113,12 +115,32 @@ fn place(
     let Ok(Ok(placement)) = cache.place_known(number, &placer, group) else {
         return None;
     };
-    Some(Cached::Placed(group, placement))
+    Some(placement)
 }
 
-/// Finds what a query asks of a tenant's pool, from what is kept, or from what is made now and
-/// kept.
-pub(crate) fn find<B: Bound>(
+/// Finds the placement of a group of a tenant's pool in the cache, or places the group.
+fn placed<B: Bound>(
+    alloc: Global,
+    cache: &mut PlacementCache,
+    kept: &mut Kept<B>,
+    name: &str,
+    ready: &Ready,
+    pool: &TenantPool,
+    group: u32,
+) -> Option<Rc<Placement>>
+    requires known { AreNumbersOf cache.old ready.now }
+    requires there { pool_at pool.now.parts.id ready.now.inventory ≡ Some pool.now }
+    ensures placed { IfSome result (λ r. groups.placed ready.now.inventory pool.now group ≡ Ok r.value) }
+    ensures keeps { KeepsNumbers cache.old cache.new }
+    ensures beside { Renumbers name.now ready.now cache.new kept.old kept.new }
+{
+    let inventory: &Inventory = ready.inventory();
+    let number = number_for(alloc, cache, kept, name, ready, pool)?;
+    place(cache, number, inventory, pool, group)
+}
+
+/// Finds what is asked of a tenant's pool, from what is kept, or from what is made now and kept.
+pub(crate) fn find<'q, B: Bound>(
     alloc: Global,
     cache: &mut PlacementCache,
     kept: &mut Kept<B>,
@@ -126,21 +148,36 @@ pub(crate) fn find<B: Bound>(
     name: &str,
     ready: &Ready,
     pool: &TenantPool,
-    asked: Asked,
-) -> Option<Cached>
+    asked: Asked<'q>,
+) -> Option<Cached<'q>>
     requires known { AreNumbersOf cache.old ready.now }
     requires there { pool_at pool.now.parts.id ready.now.inventory ≡ Some pool.now }
-    ensures found { IfSome result (λ r. (query : _) → Asks query ready.now.inventory pool.now asked → IsCachedFor query ready.now.inventory r) }
+    ensures found { IfSome result (λ r. Says ready.now.inventory r (answer_on ready.now.inventory asked.entry (Some pool.now))) }
     ensures keeps { KeepsNumbers cache.old cache.new }
     ensures beside { Renumbers name.now ready.now cache.new kept.old kept.new }
 {
     let inventory: &Inventory = ready.inventory();
     match asked {
         Asked::Group(group) => {
-            let number = number_for(alloc, cache, kept, name, ready, pool)?;
-            place(cache, number, inventory, pool, group)
+            if group >= u64::from(pool.parts().pg_num) {
+                return None;
+            }
+            let group = group as u32;
+            let placement = placed(alloc, cache, kept, name, ready, pool, group)?;
+            Some(Cached::Placed(group, placement))
         }
-        Asked::Device(device) => touched(alloc, reports, name, inventory, pool, device),
-        Asked::Versions(from, to) => moved(alloc, reports, name, inventory, pool, from, to),
+        Asked::Object(object) => {
+            let group = pool.pool().group_of_hash(object.hash());
+            let placement = placed(alloc, cache, kept, name, ready, pool, group)?;
+            Some(Cached::Located(object, group, placement))
+        }
+        Asked::Device(device) => {
+            let groups = touched(alloc, reports, name, inventory, pool, device)?;
+            Some(Cached::Touched(pool.id(), device, groups))
+        }
+        Asked::Versions(from, to) => {
+            let rows = moved(alloc, reports, name, inventory, pool, from, to)?;
+            Some(Cached::Moved(pool.id(), from, to, rows))
+        }
     }
 }

@@ -225,11 +225,12 @@ impl<T: TenantStore, B: Bound> TenantStore for CachedStore<T, B> {
         self.below.find_receipt(name, number)
     }
 
-    fn cached(&mut self, name: &str, query: &Query) -> Option<(Rc<Inventory>, Cached)> {
+    fn cached<'q>(&mut self, name: &str, query: &'q Query) -> Option<(Rc<Inventory>, Cached<'q>)> {
+        let (id, asked) = query.asked()?;
         let Ok(Some(ready)) = self.kept.get(name) else {
             return None;
         };
-        let (pool, asked) = query.asked_in(ready.inventory())?;
+        let pool = ready.inventory().pools().get(id)?;
         let cached = find(
             self.alloc,
             &mut self.cache,

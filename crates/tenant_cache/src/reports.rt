@@ -1,13 +1,14 @@
 //! The values that are kept for reports of all groups of a pool, and what reports find in them.
 
-ghost use Rattle.std.specs.Prelude.{◌≡◌, ◌≤◌, ◌*◌, Some, IfSome};
+ghost use Rattle.std.specs.Prelude.{◌≡◌, ◌≤◌, ◌*◌, Ok, Some, IfSome};
 ghost use Rattle.crush_pool.specs.Contents.{content_of};
 ghost use Rattle.crush_map.specs.Map.{IsMap};
 ghost use Rattle.crush_pool.specs.crush_choose.specs.declared.limits.TheConstants.{SIZE_LIMIT};
 ghost use Rattle.crush_pool.specs.declared.limits.TheConstants.{GROUP_LIMIT};
 ghost use Rattle.crush_report.specs.Moves.{gained_in};
 ghost use Rattle.crush_report.specs.Reports.{impact, moves};
-ghost use Rattle.tenant_core.specs.Cached.{Asks, IsCachedFor};
+ghost use Rattle.tenant_reports.specs.Impact.{groups_of};
+ghost use Rattle.tenant_reports.specs.Moves.{rows_of};
 
 use crate::bound::Bound;
 use crate::kept::Kept;
@@ -16,7 +17,6 @@ use crush_map::Listed;
 use crush_pool::{Content, Placer};
 use crush_report::{MoveRow, Touches, UpLists};
 use std::alloc::Global;
-use tenant_core::{Asked, Cached};
 use tenant_reports::impact::id_of;
 use tenant_state::{Inventory, TenantPool};
 
@@ -111,8 +111,8 @@ pub(crate) fn touched(
     inventory: &Inventory,
     pool: &TenantPool,
     device: u64,
-) -> Option<Cached>
-    ensures { IfSome result (λ r. (query : _) → Asks query inventory.now pool.now (Asked.Device device) → IsCachedFor query inventory.now r) }
+) -> Option<Listed<u32>>
+    ensures { IfSome result (λ groups. groups_of inventory.now pool.now device ≡ Ok groups) }
 {
     let version = inventory.version(inventory.newest())?;
     let Ok(placer) = inventory.on_version(version, pool) else {
@@ -122,8 +122,7 @@ pub(crate) fn touched(
         return None;
     };
     let device = id_of(placer.map().devices(), device)?;
-    let groups = find_touched(alloc, &mut reports.touches, name, content, &placer, device)?;
-    Some(Cached::Touched(pool.id(), groups))
+    find_touched(alloc, &mut reports.touches, name, content, &placer, device)
 }
 
 /// Finds the groups of a tenant's pool that move from the version `from` to the version `to`.
@@ -135,8 +134,9 @@ pub(crate) fn moved(
     pool: &TenantPool,
     from: u64,
     to: u64,
-) -> Option<Cached>
-    ensures { IfSome result (λ r. (query : _) → Asks query inventory.now pool.now (Asked.Versions from to) → IsCachedFor query inventory.now r) }
+) -> Option<Listed<MoveRow>>
+    ensures rows { IfSome result (λ rows. rows_of inventory.now pool.now from to ≡ Ok rows) }
+    ensures gained { IfSome result (λ rows. gained_in rows ≤ SIZE_LIMIT * GROUP_LIMIT) }
 {
     let before = inventory.version(from)?;
     let after = inventory.version(to)?;
@@ -149,6 +149,5 @@ pub(crate) fn moved(
     let Ok(content) = inventory.content(before, pool) else {
         return None;
     };
-    let rows = find_moved(alloc, &mut reports.lists, name, content, &old, &new)?;
-    Some(Cached::Moved(pool.id(), rows))
+    find_moved(alloc, &mut reports.lists, name, content, &old, &new)
 }

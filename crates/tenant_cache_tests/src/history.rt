@@ -88,8 +88,8 @@ pub(crate) fn accept<T: TenantStore + Drop>(
 
 /// Finds what the store has in its cache for a query. It is the one place that asks the cache: what
 /// the contract of `cached` says is long, and each caller's proof has it.
-fn found<T: TenantStore>(store: &mut T, tenant: &str, query: Query) -> Option<Cached> {
-    let Some(both) = store.cached(tenant, &query) else {
+fn found<'q, T: TenantStore>(store: &mut T, tenant: &str, query: &'q Query) -> Option<Cached<'q>> {
+    let Some(both) = store.cached(tenant, query) else {
         return None;
     };
     let (_inventory, cached) = both;
@@ -103,7 +103,7 @@ pub(crate) fn placed<T: TenantStore>(
     tenant: &str,
     group: u64,
 ) -> Rc<Placement> {
-    match found(store, tenant, Query::Group(1, group)) {
+    match found(store, tenant, &Query::Group(1, group)) {
         Some(Cached::Placed(_, placement)) => placement,
         _ => rt.abort(),
     }
@@ -140,9 +140,9 @@ fn assert_nothing<T: TenantStore>(
     query: Query,
     number: u64,
 ) {
-    assert_that(rt, found(store, tenant, query).is_none(), tenant, number);
-    let usage = found(store, tenant, Query::Usage(pool));
-    assert_that(rt, usage.is_none(), tenant, pool);
+    assert_that(rt, found(store, tenant, &query).is_none(), tenant, number);
+    let usage = Query::Usage(pool);
+    assert_that(rt, found(store, tenant, &usage).is_none(), tenant, pool);
 }
 
 /// Asserts which groups of a tenant's first pool a device can touch.
@@ -153,8 +153,8 @@ pub(crate) fn assert_touched<T: TenantStore>(
     device: u64,
     groups: &[u32],
 ) {
-    match found(store, tenant, Query::Impact(1, device)) {
-        Some(Cached::Touched(_, touched)) => {
+    match found(store, tenant, &Query::Impact(1, device)) {
+        Some(Cached::Touched(_, _, touched)) => {
             assert_that(rt, touched.as_slice() == groups, tenant, device)
         }
         _ => rt.abort(),
@@ -162,16 +162,21 @@ pub(crate) fn assert_touched<T: TenantStore>(
 }
 
 /// Asserts that what was found are the moves of `count` groups.
-fn assert_moved(rt: &impl Abort, found: &Option<Cached>, count: usize, to: u64) {
+fn assert_moved(rt: &impl Abort, found: &Option<Cached<'_>>, count: usize, to: u64) {
     match found {
-        Some(Cached::Moved(_, rows)) => assert_that(rt, rows.as_slice().len() == count, "to", to),
+        Some(Cached::Moved(_, _, _, rows)) => assert_that(
+            rt,
+            rows.as_slice().len() == count,
+            "to",
+            to,
+        ),
         _ => rt.abort(),
     }
 }
 
 /// Asserts that what was found are the moves of 8 groups, each from the up list `old` to `new`.
-fn assert_rows(rt: &impl Abort, found: &Option<Cached>, old: &[Slot], new: &[Slot]) {
-    let Some(Cached::Moved(_, rows)) = found else {
+fn assert_rows(rt: &impl Abort, found: &Option<Cached<'_>>, old: &[Slot], new: &[Slot]) {
+    let Some(Cached::Moved(_, _, _, rows)) = found else {
         return rt.abort();
     };
     let rows = rows.as_slice();
@@ -221,11 +226,13 @@ fn assert_report<T: TenantStore>(rt: &impl Abort, store: &mut T, step: &Step) {
     match step {
         Step::Touches(device, groups) => assert_touched(rt, store, "a", *device, groups),
         Step::Moves(from, to, count) => {
-            let moved = found(store, "a", Query::Moves(1, *from, *to));
+            let query = Query::Moves(1, *from, *to);
+            let moved = found(store, "a", &query);
             assert_moved(rt, &moved, *count, *to)
         }
         Step::MovesAll(from, to, old, new) => {
-            let moved = found(store, "a", Query::Moves(1, *from, *to));
+            let query = Query::Moves(1, *from, *to);
+            let moved = found(store, "a", &query);
             assert_rows(rt, &moved, old, new)
         }
         Step::TouchesNone(tenant, pool, device) => {

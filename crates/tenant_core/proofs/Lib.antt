@@ -1,5 +1,4 @@
 pub mod Accepting
-pub mod Answering
 pub mod Following
 pub mod InForm
 pub mod Making

@@ -72,7 +72,7 @@ pub trait TenantStore {
 
     /// Returns what a tenant has, with what a query asks for, where the store has both in its
     /// cache; `None` says nothing. It changes nothing that contracts see.
-    fn cached(&mut self, name: &str, query: &Query) -> Option<(Rc<Inventory>, Cached)>
+    fn cached<'q>(&mut self, name: &str, query: &'q Query) -> Option<(Rc<Inventory>, Cached<'q>)>
         ensures fits { IfSome result (λ r. IsCachedFor query.now r.0.value r.1) }
         ensures found { is_honest self.new → latched self.new ≡ false → IfSome result (λ r. HasInventory (has_state self.new) name.now (Some r.0.value)) }
         ensures same { self.new ≡ self.old }

@@ -11,7 +11,8 @@ use Rattle.tenant_messages.proofs.Finding.{Decides-leb, Finds, finds_as, finds_b
 use Rattle.tenant_messages.specs.Forms.{IsNatural, IsBoolean, IsText, IsUnder}
 use Rattle.tenant_messages.specs.Json.{both}
 use Rattle.tenant_messages.specs.Numbers.{IsRequestNumber}
-use Rattle.tenant_resources.specs.Pools.{IsPoolBody, IsRemovalBody, kind_text, kind_named, kind_of, pair, pool_with, number_under, named_of, sized_of, pool_of, removal_of}
+use Rattle.tenant_resources.specs.declared.pools.Sizes.{Sizes}
+use Rattle.tenant_resources.specs.Pools.{IsPoolBody, IsRemovalBody, kind_text, kind_named, kind_of, pair, pool_with, number_under, named_of, sizes_of, sizes_with, pool_of, removal_of}
 
 finds_pair : {A B : Type 0} {F : Data → Option A} {G : Data → Option B} {P : Data → A → Type 0} {Q : Data → B → Type 0}
     → Finds F P → Finds G Q → Finds (λ d. both pair (F d) (G d)) (λ d c. P d c.0 × Q d c.1)
@@ -55,15 +56,15 @@ finds_named =
     finds_pair (finds_pair (finds_under (codes "request") finds_number) (finds_number_under (codes "id")))
     (finds_pair (finds_under (codes "name") finds_text) (finds_under (codes "kind") finds_kind))
 
-abbrev SaysSized : Data → ((ℕ × ℕ) × (ℕ × ℕ)) × Bool → Type 0
-SaysSized d s =
-    ((IsUnder (codes "size") (IsNatural 4294967295) d s.0.0.0 × IsUnder (codes "rule") (IsNatural 4294967295) d s.0.0.1)
-    × (IsUnder (codes "pg_num") (IsNatural 4294967295) d s.0.1.0 × IsUnder (codes "pgp_num") (IsNatural 4294967295) d s.0.1.1))
-    × IsUnder (codes "hashpspool") IsBoolean d s.1
+abbrev SaysSizes : Data → Sizes → Type 0
+SaysSizes d s =
+    ((IsUnder (codes "size") (IsNatural 4294967295) d s.size × IsUnder (codes "rule") (IsNatural 4294967295) d s.rule)
+    × (IsUnder (codes "pg_num") (IsNatural 4294967295) d s.pg_num × IsUnder (codes "pgp_num") (IsNatural 4294967295) d s.pgp_num))
+    × IsUnder (codes "hashpspool") IsBoolean d s.hashpspool
 
-finds_sized : Finds sized_of SaysSized
-finds_sized =
-    finds_pair (finds_pair (finds_pair (finds_number_under (codes "size")) (finds_number_under (codes "rule")))
+finds_sizes : Finds sizes_of SaysSizes
+finds_sizes = finds_both sizes_with (λ s. ((s.size, s.rule), (s.pg_num, s.pgp_num))) (λ s. s.hashpspool) (λ n b. refl) (λ n b. refl) (λ s. refl)
+    (finds_pair (finds_pair (finds_number_under (codes "size")) (finds_number_under (codes "rule")))
     (finds_pair (finds_number_under (codes "pg_num")) (finds_number_under (codes "pgp_num")))) (finds_under (codes "hashpspool") finds_boolean)
 
 -- ---- the body of a creation
@@ -71,8 +72,8 @@ finds_sized =
 abbrev named_part : List ℕ × PoolParts → (List ℕ × ℕ) × (List ℕ × Bool)
 named_part a = ((a.0, a.1.id), (a.1.name, a.1.erasure))
 
-abbrev sized_part : List ℕ × PoolParts → ((ℕ × ℕ) × (ℕ × ℕ)) × Bool
-sized_part a = (((a.1.size, a.1.rule), (a.1.pg_num, a.1.pgp_num)), a.1.hashpspool)
+abbrev sizes_part : List ℕ × PoolParts → Sizes
+sizes_part a = record { size = a.1.size; rule = a.1.rule; pg_num = a.1.pg_num; pgp_num = a.1.pgp_num; hashpspool = a.1.hashpspool }
 
 pub finds_pool : Finds pool_of IsPoolBody
 finds_pool = finds_as
@@ -123,7 +124,7 @@ finds_pool = finds_as
       ),
     ))
     (finds_tested (λ a. is_pool a.1) (λ a. is_pool a.1 ≡ true) (λ a h. h) (λ a h. h)
-    (finds_both pool_with named_part sized_part (λ n s. refl) (λ n s. refl) (λ a. refl) finds_named finds_sized)))
+    (finds_both pool_with named_part sizes_part (λ n s. refl) (λ n s. refl) (λ a. refl) finds_named finds_sizes)))
 
 -- ---- the body of a removal
 

@@ -17,6 +17,7 @@ use Rattle.tenant_messages.specs.Reply.{members_of, natural}
 use Rattle.tenant_messages.specs.declared.reply.Problem.{Problem}
 use Rattle.tenant_messages.specs.declared.reply.Problem.TheVariants.{NoVersion, NoPool, NoRule, Exists, TenantLimit}
 use Rattle.tenant_messages.specs.declared.reply.SuccessStatus.TheVariants.{Done, Created}
+use Rattle.tenant_resources.specs.declared.pools.Sizes.{Sizes}
 use Rattle.tenant_resources.specs.Orders.{Accepted}
 use Rattle.tenant_state.specs.declared.limits.TheConstants.{POOL_LIMIT}
 use Rattle.tenant_state.specs.State.{Inventory, NewPool, RemovedPool, TenantPool, is_like, newest, version, pool}
@@ -67,18 +68,18 @@ pair a b = (a, b)
 
 -- the parts in the order in which they are read: request and id, name and kind, size and rule,
 -- pg_num and pgp_num, hashpspool
-abbrev pub pool_with : (List ℕ × ℕ) × (List ℕ × Bool) → ((ℕ × ℕ) × (ℕ × ℕ)) × Bool → List ℕ × PoolParts
-pool_with named sized = (
+abbrev pub pool_with : (List ℕ × ℕ) × (List ℕ × Bool) → Sizes → List ℕ × PoolParts
+pool_with named sizes = (
   named.0.0,
   record {
     id = named.0.1;
     name = named.1.0;
     erasure = named.1.1;
-    size = sized.0.0.0;
-    rule = sized.0.0.1;
-    pg_num = sized.0.1.0;
-    pgp_num = sized.0.1.1;
-    hashpspool = sized.1;
+    size = sizes.size;
+    rule = sizes.rule;
+    pg_num = sizes.pg_num;
+    pgp_num = sizes.pgp_num;
+    hashpspool = sizes.hashpspool;
   },
 )
 
@@ -90,16 +91,20 @@ named_of d =
     both pair (both pair (under (codes "request") request_number_of d) (number_under (codes "id") d))
     (both pair (under (codes "name") as_str d) (under (codes "kind") kind_of d))
 
-abbrev pub sized_of : Data → Option (((ℕ × ℕ) × (ℕ × ℕ)) × Bool)
-sized_of d =
-    both pair (both pair (both pair (number_under (codes "size") d) (number_under (codes "rule") d))
+abbrev pub sizes_with : (ℕ × ℕ) × (ℕ × ℕ) → Bool → Sizes
+sizes_with numbers hashpspool =
+    record { size = numbers.0.0; rule = numbers.0.1; pg_num = numbers.1.0; pgp_num = numbers.1.1; hashpspool = hashpspool }
+
+abbrev pub sizes_of : Data → Option Sizes
+sizes_of d =
+    both sizes_with (both pair (both pair (number_under (codes "size") d) (number_under (codes "rule") d))
     (both pair (number_under (codes "pg_num") d) (number_under (codes "pgp_num") d))) (under (codes "hashpspool") as_bool d)
 
 abbrev pub if_pool : List ℕ × PoolParts → Option (List ℕ × PoolParts)
 if_pool asked = if is_pool asked.1 then Some asked else None
 
 abbrev pub parts_of : Data → Option (List ℕ × PoolParts)
-parts_of d = both pool_with (named_of d) (sized_of d)
+parts_of d = both pool_with (named_of d) (sizes_of d)
 
 -- the request number, and the pool
 abbrev pub pool_of : Data → Option (List ℕ × PoolParts)

@@ -49,17 +49,33 @@ fn number_under(value: &Value, key: &str) -> Option<u32>
     natural(value, key, 4_294_967_295)
 }
 
-/// Reads the size, the rule, the numbers of groups (`pg_num`) and of their places (`pgp_num`), and
-/// whether seeds are hashed; returns `None` where a value doesn't have its form.
-fn sizes(value: &Value) -> Option<(((u32, u32), (u32, u32)), bool)>
-    ensures { result ≡ spec.sized_of (view value.now) }
+/// What a body says of a pool's size, its rule, its numbers of groups and of their places, and
+/// whether seeds are hashed.
+#[derive(Clone, Copy)]
+struct Sizes {
+    size: u32,
+    rule: u32,
+    pg_num: u32,
+    pgp_num: u32,
+    hashpspool: bool,
+}
+
+/// Reads the sizes; returns `None` where a value doesn't have its form.
+fn read_sizes(value: &Value) -> Option<Sizes>
+    ensures { result ≡ spec.sizes_of (view value.now) }
 {
     let size = number_under(value, "size")?;
     let rule = number_under(value, "rule")?;
     let pg_num = number_under(value, "pg_num")?;
     let pgp_num = number_under(value, "pgp_num")?;
     let hashpspool = boolean(value, "hashpspool")?;
-    Some((((size, rule), (pg_num, pgp_num)), hashpspool))
+    Some(Sizes {
+        size,
+        rule,
+        pg_num,
+        pgp_num,
+        hashpspool,
+    })
 }
 
 /// Reads the request number and the parts of a pool that a body's value says, without a test of the
@@ -71,17 +87,17 @@ fn parts(alloc: Global, value: &Value) -> Result<(Text, PoolParts), Refusal>
     let id = number_under(value, "id").ok_or(Problem::BadRequest)?;
     let name = text(value, "name").ok_or(Problem::BadRequest)?;
     let erasure = is_erasure(value).ok_or(Problem::BadRequest)?;
-    let (((size, rule), (pg_num, pgp_num)), hashpspool) = sizes(value).ok_or(Problem::BadRequest)?;
+    let sizes = read_sizes(value).ok_or(Problem::BadRequest)?;
     let name = Text::copy(alloc, name)?;
     let parts = PoolParts {
         id,
         name,
         erasure,
-        size,
-        rule,
-        pg_num,
-        pgp_num,
-        hashpspool,
+        size: sizes.size,
+        rule: sizes.rule,
+        pg_num: sizes.pg_num,
+        pgp_num: sizes.pgp_num,
+        hashpspool: sizes.hashpspool,
     };
     Ok((Text::copy(alloc, number)?, parts))
 }

@@ -14,7 +14,7 @@ use std::marker::Model;
 use std::rc::Rc;
 use tenant_core::laws::each_decision_fits_its_state;
 use tenant_core::{
-    Action, Call, CallParts, Decision, Effect, Query, Receipt, Refusal, Reply, Request, Routes,
+    Action, Call, CallParts, Decision, Effect, Receipt, Refusal, Reply, Request, Routes,
     StoreFault, TenantStore, answer_cached, decide, read_request, refused, store_fault,
 };
 
@@ -83,17 +83,10 @@ fn decide_cached<T: TenantStore>(
     let Action::Query(query) = &request.action else {
         return Ok(None);
     };
-    // a cache has nothing for other queries: they are answered after a load
-    if !matches!(
-        query,
-        Query::Group(_, _) | Query::Object(_, _) | Query::Impact(_, _) | Query::Moves(_, _, _)
-    ) {
-        return Ok(None);
-    }
     let Some((inventory, cached)) = store.cached(request.tenant, query) else {
         return Ok(None);
     };
-    let reply = answer_cached(alloc, &inventory, query, &cached)?;
+    let reply = answer_cached(alloc, &inventory, &cached)?;
     Ok(Some(Decision {
         effect: Effect::Keep,
         reply,

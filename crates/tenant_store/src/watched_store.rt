@@ -119,7 +119,7 @@ impl<T: TenantStore, W: Watch> TenantStore for WatchedStore<T, W> {
         self.below.find_receipt(name, number)
     }
 
-    fn cached(&mut self, name: &str, query: &Query) -> Option<(Rc<Inventory>, Cached)> {
+    fn cached<'q>(&mut self, name: &str, query: &'q Query) -> Option<(Rc<Inventory>, Cached<'q>)> {
         self.below.cached(name, query)
     }
 

@@ -6,3 +6,4 @@ pub mod Commits
 pub mod Lists
 pub mod Pages
 pub mod Rows
+pub mod Reads

@@ -213,7 +213,7 @@ fn write_exceptions<S: Alter>(
     ensures rows { HasCleanDisk (state S.Store tables.new.0) → result ≢ Err StoreFault.Damaged }
     ensures crash { Survives (state S.Store tables.old.0) (state S.Store tables.new.0) (Accepts accepted.entry (with_new_pairs pool exceptions.now) (state S.Store tables.old.0).now.trees) }
 {
-    let rows = tables.pools_of(accepted.id)?;
+    let rows: Vec<PoolRow> = tables.list_of(accepted.id)?;
     let Some(row) = row_with(rows, pool) else {
         return Err(StoreFault::Damaged);
     };

@@ -1,14 +1,15 @@
 //! Whether a tenant's receipts are those of a state, a page at a time.
 
-ghost use Rattle.std.specs.Prelude.{◌≡◌, ◌≢◌, ◌↔◌, ◌<◌, ◌+◌, List, map, length, true, false, Ok, Err, None, IfOk, IfErr, IfSome, OnOk, IsTrue};
+ghost use Rattle.std.specs.Prelude.{◌≡◌, ◌↔◌, ◌<◌, ◌+◌, List, map, length, false, Ok, Err, None, IfOk, IfErr, IfSome, OnOk, IsTrue};
 ghost use Rattle.std.specs.List.{AllByRecursion};
 ghost use Rattle.sqlite.specs.Held.{state};
-ghost use Rattle.sqlite.specs.State.{HasCleanDisk, Survives};
+ghost use Rattle.sqlite.specs.State.{HasCleanDisk};
 ghost use Rattle.table_schema.specs.sqlite_value.specs.Order.{Row};
 ghost use Rattle.tenant_state.specs.Receipts.{Receipts};
 ghost use Rattle.table_schema.specs.Found.{Begins, receipt_values};
 ghost use Rattle.tenant_tables.specs.Changes.{HasReceipts};
 ghost use Rattle.tenant_tables.specs.Pages.{AreReceipts, IsOfReceipt, IsTail, Leaves};
+ghost use Rattle.tenant_tables.specs.Reads.{ChangesNoRow};
 
 use crate::parts::is_receipt_row;
 use crate::tables::Tables;
@@ -76,18 +77,15 @@ pub fn judge_receipts<S: Alter>(tables: &mut Tables<S>, tenant: &Tenant) -> Resu
     requires live { tables.old.1 ≡ false }
     ensures found { HasCleanDisk (state S.Store tables.new.0) → OnOk result ((receipts : Receipts) × HasReceipts (state S.Store tables.old.0).now.trees tenant.now receipts) }
     ensures damaged { HasCleanDisk (state S.Store tables.new.0) → result ≡ Err StoreFault.Damaged → (receipts : Receipts) → ¬ HasReceipts (state S.Store tables.old.0).now.trees tenant.now receipts }
-    ensures full { result ≢ Err StoreFault.Full }
-    ensures kept { HasCleanDisk (state S.Store tables.new.0) → tables.new.1 ≡ false → (state S.Store tables.new.0).now ≡ (state S.Store tables.old.0).now }
-    ensures latches { tables.new.1 ≡ true ↔ result ≡ Err StoreFault.Failed }
-    ensures crash { Survives (state S.Store tables.old.0) (state S.Store tables.new.0) (λ _. ⊥) }
+    ensures reads { ChangesNoRow S.Store result tables.old tables.new }
 {
     let Ok(number) = u64::try_from(tenant.epoch) else {
         return Err(StoreFault::Damaged);
     };
-    let page = tables.first_receipts(tenant.id)?;
+    let page = tables.receipts_behind(tenant.id, None)?;
     let mut rest = rest_behind(page, number)?;
     while let Some(more) = rest {
-        let page = tables.receipts_after(tenant.id, more.after.as_str())?;
+        let page = tables.receipts_behind(tenant.id, Some(more.after.as_str()))?;
         rest = rest_behind(page, more.left)?;
     }
     Ok(())

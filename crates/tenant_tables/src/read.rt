@@ -1,11 +1,12 @@
 //! What a tenant has, from the tables.
 
-ghost use Rattle.std.specs.Prelude.{◌≡◌, ◌≢◌, ◌↔◌, true, false, IfOk, Err};
+ghost use Rattle.std.specs.Prelude.{◌≡◌, false, IfOk, Err};
 ghost use Rattle.sqlite.specs.Held.{state};
-ghost use Rattle.sqlite.specs.State.{HasCleanDisk, Survives};
+ghost use Rattle.sqlite.specs.State.{HasCleanDisk};
 ghost use Rattle.tenant_state.specs.State.{Inventory as Has};
 ghost use Rattle.tenant_tables.specs.Changes.{HasRows};
 ghost use Rattle.tenant_tables.specs.Lists.{IsOfState};
+ghost use Rattle.tenant_tables.specs.Reads.{ChangesNoRow};
 
 use crate::inventory::inventory_from;
 use crate::tables::Tables;
@@ -14,6 +15,8 @@ use sqlite::Alter;
 use std::alloc::Global;
 use std::rc::Rc;
 use table_schema::find::Tenant;
+use table_schema::rows::{PoolRow, VersionRow};
+use table_schema::values::{Exception, State};
 use tenant_messages::StoreFault;
 use tenant_state::Inventory;
 
@@ -30,16 +33,13 @@ pub fn read_inventory<S: Alter>(
     requires live { tables.old.1 ≡ false }
     ensures found { HasCleanDisk (state S.Store tables.new.0) → IfOk result (λ i. IsOfState i.value × HasRows (state S.Store tables.old.0).now.trees tenant.now i.value) }
     ensures damaged { HasCleanDisk (state S.Store tables.new.0) → result ≡ Err StoreFault.Damaged → (i : Has) → IsOfState i → ¬ HasRows (state S.Store tables.old.0).now.trees tenant.now i }
-    ensures full { result ≢ Err StoreFault.Full }
-    ensures kept { HasCleanDisk (state S.Store tables.new.0) → tables.new.1 ≡ false → (state S.Store tables.new.0).now ≡ (state S.Store tables.old.0).now }
-    ensures latches { tables.new.1 ≡ true ↔ result ≡ Err StoreFault.Failed }
-    ensures crash { Survives (state S.Store tables.old.0) (state S.Store tables.new.0) (λ _. ⊥) }
+    ensures reads { ChangesNoRow S.Store result tables.old tables.new }
 {
     canonical_texts_are_ascii();
-    let versions = tables.versions_of(tenant.id)?;
-    let devices = tables.devices_of(tenant.id)?;
-    let pools = tables.pools_of(tenant.id)?;
-    let exceptions = tables.exceptions_of(tenant.id)?;
+    let versions: Vec<VersionRow> = tables.list_of(tenant.id)?;
+    let devices: Vec<State> = tables.list_of(tenant.id)?;
+    let pools: Vec<PoolRow> = tables.list_of(tenant.id)?;
+    let exceptions: Vec<Exception> = tables.list_of(tenant.id)?;
     match inventory_from(alloc, tenant.epoch, versions, devices, pools, &exceptions)? {
         Some(inventory) => Ok(inventory),
         None => Err(StoreFault::Damaged),

@@ -1,18 +1,18 @@
 //! The tables of a connection as a value that latches after a failure.
 
-ghost use Rattle.std.specs.Prelude.{◌≡◌, ◌≢◌, ◌↔◌, ◌⊎◌, [], ◌∷◌, map, true, false, IfOk, IfErr, OnOk, OnErr, Err, IsTrue};
+ghost use Rattle.std.specs.Prelude.{◌≡◌, ◌≢◌, ◌↔◌, ◌⊎◌, [], ◌∷◌, map, true, false, Ok, IfOk, IfErr, OnOk, OnErr, Err, IsTrue, option_map};
 ghost use Rattle.sqlite.specs.Held.{state};
 ghost use Rattle.sqlite.specs.State.{HasCleanDisk, Survives};
 ghost use Rattle.std.specs.List.{AllByRecursion};
 ghost use Rattle.sqlite_trees.specs.View.{IsClean};
-ghost use Rattle.table_schema.specs.Layout.{no_schema, first_schema, IsStoreSchema, maps_table, devices_table, pools_table, receipts_table, exceptions_table};
+ghost use Rattle.table_schema.specs.Layout.{no_schema, first_schema, IsStoreSchema, receipts_table};
 ghost use Rattle.tenant_tables.specs.Opened.{HasVersion, IsKnown, IsBare, IsMigrated, IsStrange, SetsUp};
 ghost use Rattle.table_schema.specs.Ready.{Commits, IsReady};
 ghost use Rattle.table_schema.specs.Holds.{of_tenant};
-ghost use Rattle.table_schema.specs.Found.{Names, Lists, ListsBy, Precedes, IsExceptionRow, Begins, rows_above, receipt_values, receipts_with, AreReceipt, IsReceiptRow, version_values, pool_values, IsVersionRow, IsStateRow, IsPoolRow};
+ghost use Rattle.table_schema.specs.Found.{Names, Lists, ListsBy, Begins, rows_behind, receipt_values, receipts_with, AreReceipt, IsReceiptRow};
+ghost use Rattle.tenant_tables.specs.Reads.{ChangesNoRow};
 ghost use Rattle.tenant_tables.specs.Run.{AreSound, Makes};
 ghost use Rattle.sqlite.specs.Effect.{Database};
-ghost use Rattle.table_schema.specs.Values.{state_row, exception_row};
 
 use crate::open::{get_ready, set_up};
 use crate::reopen::reopen;
@@ -20,13 +20,11 @@ use crate::write::{Write, write_all};
 use sqlite::{Alter, Connection};
 use std::alloc::Global;
 use std::marker::Model;
-use table_schema::exceptions::exceptions_of;
 use table_schema::fault::ReadFault;
 use table_schema::find::{Tenant, find};
-use table_schema::lists::{devices_of, pools_of, receipt_of, versions_of};
-use table_schema::pages::{first_receipts, receipts_after};
-use table_schema::rows::{PoolRow, ReceiptRow, VersionRow};
-use table_schema::values::{Exception, State};
+use table_schema::lists::{list_of, receipt_of};
+use table_schema::pages::receipts_behind;
+use table_schema::rows::{Listed, ReceiptRow};
 use tenant_messages::StoreFault;
 
 /// The tables of a connection. Contracts see the connection, and whether a failure has latched the
@@ -64,21 +62,22 @@ fn latched<T>(is_latched: &mut bool, answer: Result<T, StoreFault>) -> Result<T,
     answer
 }
 
-/// Returns the fault that is reported of a read, and latches the tables where the connection is
-/// lost, or may be.
-fn latch(is_latched: &mut bool, why: ReadFault) -> StoreFault
-    ensures latch { is_latched.new ≡ true ↔ result ≡ StoreFault.Failed }
-    ensures damaged { result ≡ StoreFault.Damaged ↔ why ≡ ReadFault.Damaged }
-    ensures stands { result ≢ StoreFault.Failed → (why ≢ ReadFault.Unseen) × (why ≢ ReadFault.Failed) }
-    ensures full { result ≢ StoreFault.Full }
+/// Returns what is reported of a read, and latches the tables where the connection is lost, or may
+/// be.
+fn answered<T>(is_latched: &mut bool, answer: Result<T, ReadFault>) -> Result<T, StoreFault>
+    ensures latch { is_latched.new ≡ true ↔ result ≡ Err StoreFault.Failed }
+    ensures ok { IfOk result (λ x. answer ≡ Ok x) }
+    ensures damaged { result ≡ Err StoreFault.Damaged → answer ≡ Err ReadFault.Damaged }
+    ensures stands { result ≢ Err StoreFault.Failed → (answer ≢ Err ReadFault.Unseen) × (answer ≢ Err ReadFault.Failed) }
+    ensures full { result ≢ Err StoreFault.Full }
 {
-    let fault = match why {
-        ReadFault::NoMemory => StoreFault::NoMemory,
-        ReadFault::Damaged => StoreFault::Damaged,
-        ReadFault::Unseen | ReadFault::Failed => StoreFault::Failed,
+    let answer = match answer {
+        Ok(found) => Ok(found),
+        Err(ReadFault::NoMemory) => Err(StoreFault::NoMemory),
+        Err(ReadFault::Damaged) => Err(StoreFault::Damaged),
+        Err(ReadFault::Unseen | ReadFault::Failed) => Err(StoreFault::Failed),
     };
-    *is_latched = matches!(fault, StoreFault::Failed);
-    fault
+    latched(is_latched, answer)
 }
 
 impl<S: Alter + Drop> Tables<S> {
@@ -175,93 +174,25 @@ impl<S: Alter> Tables<S> {
         ensures ready { HasCleanDisk (state S.Store self.old.0) → IsReady (state S.Store self.old.0) }
         ensures found { HasCleanDisk (state S.Store self.new.0) → IfOk result (Names (state S.Store self.old.0).now.trees name.now) }
         ensures damaged { HasCleanDisk (state S.Store self.new.0) → result ≡ Err StoreFault.Damaged → (tenant : _) → ¬ Names (state S.Store self.old.0).now.trees name.now tenant }
-        ensures full { result ≢ Err StoreFault.Full }
-        ensures kept { HasCleanDisk (state S.Store self.new.0) → self.new.1 ≡ false → (state S.Store self.new.0).now ≡ (state S.Store self.old.0).now }
-        ensures latches { self.new.1 ≡ true ↔ result ≡ Err StoreFault.Failed }
-        ensures crash { Survives (state S.Store self.old.0) (state S.Store self.new.0) (λ _. ⊥) }
+        ensures reads { ChangesNoRow S.Store result self.old self.new }
     {
-        match find(&mut self.conn, name) {
-            Ok(found) => Ok(found),
-            Err(why) => Err(latch(&mut self.is_latched, why)),
-        }
+        answered(&mut self.is_latched, find(&mut self.conn, name))
     }
 
-    /// Reads the versions of the map of the tenant with the number `id`, which rise strictly.
+    /// Reads the list of `T`s of the tenant with the number `id`, whose keys rise strictly.
     ///
-    /// No row is changed. `Err(StoreFault::Damaged)`: a version occurs twice, or a row is none that
+    /// No row is changed. `Err(StoreFault::Damaged)`: a key occurs twice, or a row is none that
     /// this service writes. `Err(StoreFault::Failed)`: the tables are latched.
-    pub fn versions_of(&mut self, id: i64) -> Result<Vec<VersionRow>, StoreFault>
+    pub fn list_of<T: Listed + Drop>(&mut self, id: i64) -> Result<Vec<T>, StoreFault>
         requires live { self.old.1 ≡ false }
-        ensures found { HasCleanDisk (state S.Store self.new.0) → IfOk result (λ versions. Lists (of_tenant maps_table id (state S.Store self.old.0).now.trees) (map version_values versions.items)) }
-        ensures damaged { HasCleanDisk (state S.Store self.new.0) → result ≡ Err StoreFault.Damaged → (list : _) → AllByRecursion IsVersionRow list → ¬ Lists (of_tenant maps_table id (state S.Store self.old.0).now.trees) list }
-        ensures full { result ≢ Err StoreFault.Full }
-        ensures kept { HasCleanDisk (state S.Store self.new.0) → self.new.1 ≡ false → (state S.Store self.new.0).now ≡ (state S.Store self.old.0).now }
-        ensures latches { self.new.1 ≡ true ↔ result ≡ Err StoreFault.Failed }
-        ensures crash { Survives (state S.Store self.old.0) (state S.Store self.new.0) (λ _. ⊥) }
+        ensures found { HasCleanDisk (state S.Store self.new.0) → IfOk result (λ list. ListsBy T.before (of_tenant T.table id (state S.Store self.old.0).now.trees) (map T.values list.items)) }
+        ensures damaged { HasCleanDisk (state S.Store self.new.0) → result ≡ Err StoreFault.Damaged → (list : _) → AllByRecursion T.is_one list → ¬ ListsBy T.before (of_tenant T.table id (state S.Store self.old.0).now.trees) list }
+        ensures reads { ChangesNoRow S.Store result self.old self.new }
     {
-        match versions_of(self.alloc, &mut self.conn, id) {
-            Ok(found) => Ok(found),
-            Err(why) => Err(latch(&mut self.is_latched, why)),
-        }
-    }
-
-    /// Reads the states of devices of the tenant with the number `id`, by the devices, which rise
-    /// strictly.
-    ///
-    /// No row is changed. `Err(StoreFault::Damaged)`: a device occurs twice, or a row is none that
-    /// this service writes. `Err(StoreFault::Failed)`: the tables are latched.
-    pub fn devices_of(&mut self, id: i64) -> Result<Vec<State>, StoreFault>
-        requires live { self.old.1 ≡ false }
-        ensures found { HasCleanDisk (state S.Store self.new.0) → IfOk result (λ states. Lists (of_tenant devices_table id (state S.Store self.old.0).now.trees) (map state_row states.items)) }
-        ensures damaged { HasCleanDisk (state S.Store self.new.0) → result ≡ Err StoreFault.Damaged → (list : _) → AllByRecursion IsStateRow list → ¬ Lists (of_tenant devices_table id (state S.Store self.old.0).now.trees) list }
-        ensures full { result ≢ Err StoreFault.Full }
-        ensures kept { HasCleanDisk (state S.Store self.new.0) → self.new.1 ≡ false → (state S.Store self.new.0).now ≡ (state S.Store self.old.0).now }
-        ensures latches { self.new.1 ≡ true ↔ result ≡ Err StoreFault.Failed }
-        ensures crash { Survives (state S.Store self.old.0) (state S.Store self.new.0) (λ _. ⊥) }
-    {
-        match devices_of(self.alloc, &mut self.conn, id) {
-            Ok(found) => Ok(found),
-            Err(why) => Err(latch(&mut self.is_latched, why)),
-        }
-    }
-
-    /// Reads the pools of the tenant with the number `id`, by their ids, which rise strictly.
-    ///
-    /// No row is changed. `Err(StoreFault::Damaged)`: an id occurs twice, or a row is none that
-    /// this service writes. `Err(StoreFault::Failed)`: the tables are latched.
-    pub fn pools_of(&mut self, id: i64) -> Result<Vec<PoolRow>, StoreFault>
-        requires live { self.old.1 ≡ false }
-        ensures found { HasCleanDisk (state S.Store self.new.0) → IfOk result (λ pools. Lists (of_tenant pools_table id (state S.Store self.old.0).now.trees) (map pool_values pools.items)) }
-        ensures damaged { HasCleanDisk (state S.Store self.new.0) → result ≡ Err StoreFault.Damaged → (list : _) → AllByRecursion IsPoolRow list → ¬ Lists (of_tenant pools_table id (state S.Store self.old.0).now.trees) list }
-        ensures full { result ≢ Err StoreFault.Full }
-        ensures kept { HasCleanDisk (state S.Store self.new.0) → self.new.1 ≡ false → (state S.Store self.new.0).now ≡ (state S.Store self.old.0).now }
-        ensures latches { self.new.1 ≡ true ↔ result ≡ Err StoreFault.Failed }
-        ensures crash { Survives (state S.Store self.old.0) (state S.Store self.new.0) (λ _. ⊥) }
-    {
-        match pools_of(self.alloc, &mut self.conn, id) {
-            Ok(found) => Ok(found),
-            Err(why) => Err(latch(&mut self.is_latched, why)),
-        }
-    }
-
-    /// Reads the exceptions of the pools of the tenant with the number `id`, by pool and place. No
-    /// place of a pool occurs twice.
-    ///
-    /// No row is changed. `Err(StoreFault::Damaged)`: a place of a pool occurs twice, or a row is
-    /// none that this service writes. `Err(StoreFault::Failed)`: the tables are latched.
-    pub fn exceptions_of(&mut self, id: i64) -> Result<Vec<Exception>, StoreFault>
-        requires live { self.old.1 ≡ false }
-        ensures found { HasCleanDisk (state S.Store self.new.0) → IfOk result (λ exceptions. ListsBy Precedes (of_tenant exceptions_table id (state S.Store self.old.0).now.trees) (map exception_row exceptions.items)) }
-        ensures damaged { HasCleanDisk (state S.Store self.new.0) → result ≡ Err StoreFault.Damaged → (list : _) → AllByRecursion IsExceptionRow list → ¬ ListsBy Precedes (of_tenant exceptions_table id (state S.Store self.old.0).now.trees) list }
-        ensures full { result ≢ Err StoreFault.Full }
-        ensures kept { HasCleanDisk (state S.Store self.new.0) → self.new.1 ≡ false → (state S.Store self.new.0).now ≡ (state S.Store self.old.0).now }
-        ensures latches { self.new.1 ≡ true ↔ result ≡ Err StoreFault.Failed }
-        ensures crash { Survives (state S.Store self.old.0) (state S.Store self.new.0) (λ _. ⊥) }
-    {
-        match exceptions_of(self.alloc, &mut self.conn, id) {
-            Ok(found) => Ok(found),
-            Err(why) => Err(latch(&mut self.is_latched, why)),
-        }
+        answered(
+            &mut self.is_latched,
+            list_of(self.alloc, &mut self.conn, id),
+        )
     }
 
     /// Reads the receipt of the request of the tenant with the number `id`, or `None` where there
@@ -273,55 +204,34 @@ impl<S: Alter> Tables<S> {
         requires live { self.old.1 ≡ false }
         ensures found { HasCleanDisk (state S.Store self.new.0) → IfOk result (AreReceipt (receipts_with (state S.Store self.old.0).now.trees id request.now)) }
         ensures damaged { HasCleanDisk (state S.Store self.new.0) → result ≡ Err StoreFault.Damaged → (receipts_with (state S.Store self.old.0).now.trees id request.now ≢ []) × ((row : _) → IsReceiptRow row → receipts_with (state S.Store self.old.0).now.trees id request.now ≢ row ∷ []) }
-        ensures full { result ≢ Err StoreFault.Full }
-        ensures kept { HasCleanDisk (state S.Store self.new.0) → self.new.1 ≡ false → (state S.Store self.new.0).now ≡ (state S.Store self.old.0).now }
-        ensures latches { self.new.1 ≡ true ↔ result ≡ Err StoreFault.Failed }
-        ensures crash { Survives (state S.Store self.old.0) (state S.Store self.new.0) (λ _. ⊥) }
+        ensures reads { ChangesNoRow S.Store result self.old self.new }
     {
-        match receipt_of(&mut self.conn, id, request) {
-            Ok(found) => Ok(found),
-            Err(why) => Err(latch(&mut self.is_latched, why)),
-        }
-    }
-
-    /// Reads the first receipts of the tenant with the number `id`, in the order of their requests'
-    /// bytes: a page, or fewer where there are no more.
-    ///
-    /// No row is changed. `Err(StoreFault::Damaged)`: a request occurs twice, or a row is none that
-    /// this service writes. `Err(StoreFault::Failed)`: the tables are latched.
-    pub fn first_receipts(&mut self, id: i64) -> Result<Vec<ReceiptRow>, StoreFault>
-        requires live { self.old.1 ≡ false }
-        ensures found { HasCleanDisk (state S.Store self.new.0) → IfOk result (λ page. Begins 16 (of_tenant receipts_table id (state S.Store self.old.0).now.trees) (map receipt_values page.items)) }
-        ensures damaged { HasCleanDisk (state S.Store self.new.0) → result ≡ Err StoreFault.Damaged → (list : _) → AllByRecursion IsReceiptRow list → ¬ Lists (of_tenant receipts_table id (state S.Store self.old.0).now.trees) list }
-        ensures full { result ≢ Err StoreFault.Full }
-        ensures kept { HasCleanDisk (state S.Store self.new.0) → self.new.1 ≡ false → (state S.Store self.new.0).now ≡ (state S.Store self.old.0).now }
-        ensures latches { self.new.1 ≡ true ↔ result ≡ Err StoreFault.Failed }
-        ensures crash { Survives (state S.Store self.old.0) (state S.Store self.new.0) (λ _. ⊥) }
-    {
-        match first_receipts(self.alloc, &mut self.conn, id) {
-            Ok(found) => Ok(found),
-            Err(why) => Err(latch(&mut self.is_latched, why)),
-        }
+        answered(
+            &mut self.is_latched,
+            receipt_of(&mut self.conn, id, request),
+        )
     }
 
     /// Reads the first receipts of the tenant with the number `id` whose requests are above
-    /// `after`: a page, or fewer where there are no more. Given the last request of a page, it
-    /// reads the next page.
+    /// `after`, or its first receipts where that is `None`, in the order of their requests' bytes:
+    /// a page, or fewer where there are no more. Given the last request of a page, it reads the
+    /// next page.
     ///
     /// No row is changed. `Err(StoreFault::Damaged)`: a request occurs twice, or a row is none that
     /// this service writes. `Err(StoreFault::Failed)`: the tables are latched.
-    pub fn receipts_after(&mut self, id: i64, after: &str) -> Result<Vec<ReceiptRow>, StoreFault>
+    pub fn receipts_behind(
+        &mut self,
+        id: i64,
+        after: Option<&str>,
+    ) -> Result<Vec<ReceiptRow>, StoreFault>
         requires live { self.old.1 ≡ false }
-        ensures found { HasCleanDisk (state S.Store self.new.0) → IfOk result (λ page. Begins 16 (rows_above after.now (of_tenant receipts_table id (state S.Store self.old.0).now.trees)) (map receipt_values page.items)) }
-        ensures damaged { HasCleanDisk (state S.Store self.new.0) → result ≡ Err StoreFault.Damaged → (list : _) → AllByRecursion IsReceiptRow list → ¬ Lists (rows_above after.now (of_tenant receipts_table id (state S.Store self.old.0).now.trees)) list }
-        ensures full { result ≢ Err StoreFault.Full }
-        ensures kept { HasCleanDisk (state S.Store self.new.0) → self.new.1 ≡ false → (state S.Store self.new.0).now ≡ (state S.Store self.old.0).now }
-        ensures latches { self.new.1 ≡ true ↔ result ≡ Err StoreFault.Failed }
-        ensures crash { Survives (state S.Store self.old.0) (state S.Store self.new.0) (λ _. ⊥) }
+        ensures found { HasCleanDisk (state S.Store self.new.0) → IfOk result (λ page. Begins 16 (rows_behind (option_map (λ t. t.now) after.entry) (of_tenant receipts_table id (state S.Store self.old.0).now.trees)) (map receipt_values page.items)) }
+        ensures damaged { HasCleanDisk (state S.Store self.new.0) → result ≡ Err StoreFault.Damaged → (list : _) → AllByRecursion IsReceiptRow list → ¬ Lists (rows_behind (option_map (λ t. t.now) after.entry) (of_tenant receipts_table id (state S.Store self.old.0).now.trees)) list }
+        ensures reads { ChangesNoRow S.Store result self.old self.new }
     {
-        match receipts_after(self.alloc, &mut self.conn, id, after) {
-            Ok(found) => Ok(found),
-            Err(why) => Err(latch(&mut self.is_latched, why)),
-        }
+        answered(
+            &mut self.is_latched,
+            receipts_behind(self.alloc, &mut self.conn, id, after),
+        )
     }
 }

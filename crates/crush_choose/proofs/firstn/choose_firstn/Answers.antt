@@ -10,7 +10,7 @@ use Rattle.crush_choose.proofs.firstn.choose_firstn.Goals as goal
 pub loop-rep-preserved : goal.loop-rep-preserved
 loop-rep-preserved c =
     let next = mark_of c.args.tables.now c.args.weights.now c.args.call.now in
-    let made = rw c.in-Mark.is at c.decide_with_room-decision.ensures.value in
+    let made = rw (c.in-Mark.is, c.loop-rep.invariant.fits) at c.decide_with_room-decision.ensures.value in
     let beside : c.in-Mark.mark ≡ mark_beside c.args.tables.now c.args.weights.now c.args.call.now c.loop-rep.items c.loop-rep.leaves c.loop-rep.rep = search (rules, made) in
     let is = mark_is c.args.tables.now c.args.weights.now c.args.call.now c.loop-rep.rep c.loop-rep.items c.loop-rep.leaves c.in-Mark.mark c.loop-rep.invariant.items c.loop-rep.invariant.leaves beside in
     let fits = rw c.in-Mark.is at c.decide_with_room-decision.ensures.room in
@@ -19,18 +19,18 @@ loop-rep-preserved c =
       items = slots_more (λ s. Some s.item) next c.loop-rep.rep c.loop-rep.items c.add.new.items c.in-Mark.mark c.loop-rep.invariant.items is c.add.ensures.items;
       leaves = slots_more (λ s. Some s.leaf) next c.loop-rep.rep c.loop-rep.leaves c.add.new.leaves c.in-Mark.mark c.loop-rep.invariant.leaves is c.add.ensures.leaves;
       room = rw c.add.ensures.items (rw length-append room);
-      fits = c.decide_with_room-decision.ensures.fits;
+      fits = c.decide_with_room-decision.ensures.same ∙ c.loop-rep.invariant.fits;
     }
 
 pub returns-in-Hopeless-clause-items : goal.returns-in-Hopeless-clause-items
 returns-in-Hopeless-clause-items c =
-    let none = rw c.in-Hopeless.is at c.decide_with_room-decision.ensures.value in
+    let none = rw (c.in-Hopeless.is, c.loop-rep.invariant.fits) at c.decide_with_room-decision.ensures.value in
     let cannot : firstn_can_place c.args.tables.now c.args.weights.now c.args.call.now c.loop-rep.items c.loop-rep.leaves ≡ false = search (rules, none) in
     slots_end c.a_pick_is_pickable.ensures.pickable (λ s. Some s.item) c.args.tables.now c.args.weights.now c.args.call.now c.loop-rep.rep c.loop-rep.items c.loop-rep.leaves c.loop-rep.items (omega arith) c.loop-rep.invariant.items c.loop-rep.invariant.leaves cannot c.loop-rep.invariant.items
 
 pub returns-in-Hopeless-clause-leaves : goal.returns-in-Hopeless-clause-leaves
 returns-in-Hopeless-clause-leaves c =
-    let none = rw c.in-Hopeless.is at c.decide_with_room-decision.ensures.value in
+    let none = rw (c.in-Hopeless.is, c.loop-rep.invariant.fits) at c.decide_with_room-decision.ensures.value in
     let cannot : firstn_can_place c.args.tables.now c.args.weights.now c.args.call.now c.loop-rep.items c.loop-rep.leaves ≡ false = search (rules, none) in
     slots_end c.a_pick_is_pickable.ensures.pickable (λ s. Some s.leaf) c.args.tables.now c.args.weights.now c.args.call.now c.loop-rep.rep c.loop-rep.items c.loop-rep.leaves c.loop-rep.leaves (omega arith) c.loop-rep.invariant.items c.loop-rep.invariant.leaves cannot c.loop-rep.invariant.leaves
 
@@ -40,7 +40,7 @@ returns-in-Hopeless-clause-there c = firstn_is c.args.tables.now c.args.weights.
 pub returns-in-Hopeless-clause-only : goal.returns-in-Hopeless-clause-only
 returns-in-Hopeless-clause-only c = λ marks is.
     let answer = sym (firstn_only c.args.tables.now c.args.weights.now c.args.call.now marks is) in
-    let none = rw c.in-Hopeless.is at c.decide_with_room-decision.ensures.value in
+    let none = rw (c.in-Hopeless.is, c.loop-rep.invariant.fits) at c.decide_with_room-decision.ensures.value in
     let cannot : firstn_can_place c.args.tables.now c.args.weights.now c.args.call.now c.loop-rep.items c.loop-rep.leaves ≡ false = search (rules, none) in
     let items = slots_end c.a_pick_is_pickable.ensures.pickable (λ s. Some s.item) c.args.tables.now c.args.weights.now c.args.call.now c.loop-rep.rep c.loop-rep.items c.loop-rep.leaves c.loop-rep.items (omega arith) c.loop-rep.invariant.items c.loop-rep.invariant.leaves cannot c.loop-rep.invariant.items in
     let leaves = slots_end c.a_pick_is_pickable.ensures.pickable (λ s. Some s.leaf) c.args.tables.now c.args.weights.now c.args.call.now c.loop-rep.rep c.loop-rep.items c.loop-rep.leaves c.loop-rep.leaves (omega arith) c.loop-rep.invariant.items c.loop-rep.invariant.leaves cannot c.loop-rep.invariant.leaves in

@@ -8,5 +8,5 @@ use Rattle.crush_choose.proofs.walk.reach_by.Goals as goal
 
 pub returns-clause-value : goal.returns-clause-value
 returns-clause-value c =
-    let t = c.args.tables.now in
+    let t = c.args.scratch.now in
     c.reach.ensures.value ∙ ap (λ (rr : ℕ → ℕ). reach t c.args.walk.x rr c.args.walk.wanted c.args.walk.from) (fun_ext (λ (b : ℕ). steady (is_uniform (kind_at t b) && (size_at t b % 1 == 0)) c.args.r))

@@ -18,7 +18,7 @@ use Rattle.tenant_store.proofs.reading.find_receipt.Goals as goal
 pub returns-clause-found : goal.returns-clause-found
 returns-clause-found g c clean s stands =
     let old = (state g.S.Store c.args.tables.now.0).now in
-    let mid : HasCleanDisk (state g.S.Store c.tenant_of.new.tables.0) = omega (arith, clean, c.receipt_of.ensures.crash.clean) in
+    let mid : HasCleanDisk (state g.S.Store c.tenant_of.new.tables.0) = omega (arith, clean, c.receipt_of.ensures.reads.crash.clean) in
     let kept = c.in_ok-tenant.ensures.kept mid c.in_ok-tenant.ensures.latches in
     let tenant = c.in_ok-tenant.tenant in
     let fits : SFits w64 tenant.id = search rules in
@@ -29,7 +29,7 @@ returns-clause-found g c clean s stands =
 pub returns-clause-damaged : goal.returns-clause-damaged
 returns-clause-damaged g c clean same =
     let old = (state g.S.Store c.args.tables.now.0).now in
-    let mid : HasCleanDisk (state g.S.Store c.tenant_of.new.tables.0) = omega (arith, clean, c.receipt_of.ensures.crash.clean) in
+    let mid : HasCleanDisk (state g.S.Store c.tenant_of.new.tables.0) = omega (arith, clean, c.receipt_of.ensures.reads.crash.clean) in
     let early : HasCleanDisk (state g.S.Store c.args.tables.now.0) = omega (arith, mid, c.tenant_of.ensures.crash.clean) in
     let kept = c.in_ok-tenant.ensures.kept mid c.in_ok-tenant.ensures.latches in
     let tenant = c.in_ok-tenant.tenant in
@@ -44,7 +44,7 @@ pub returns-in_err-row-clause-damaged : goal.returns-in_err-row-clause-damaged
 returns-in_err-row-clause-damaged g c clean same =
     let p = err_from_is_err_and c.from_residual-in_err-row.result c.from_residual-in_err-row.ensures.1 in
     let old = (state g.S.Store c.args.tables.now.0).now in
-    let mid : HasCleanDisk (state g.S.Store c.tenant_of.new.tables.0) = omega (arith, clean, c.receipt_of.ensures.crash.clean) in
+    let mid : HasCleanDisk (state g.S.Store c.tenant_of.new.tables.0) = omega (arith, clean, c.receipt_of.ensures.reads.crash.clean) in
     let early : HasCleanDisk (state g.S.Store c.args.tables.now.0) = omega (arith, mid, c.tenant_of.ensures.crash.clean) in
     let kept = c.in_ok-tenant.ensures.kept mid c.in_ok-tenant.ensures.latches in
     let tenant = c.in_ok-tenant.tenant in

@@ -14,7 +14,7 @@ returns-then-contains_key-clause-has g c clean =
 pub returns-clause-judged : goal.returns-clause-judged
 returns-clause-judged g c clean =
     let db = (state g.S.Store c.args.tables.now.0).now.trees in
-    let early : HasCleanDisk (state g.S.Store c.args.tables.now.0) = omega (arith, clean, c.judge_receipts.ensures.crash.clean) in
+    let early : HasCleanDisk (state g.S.Store c.args.tables.now.0) = omega (arith, clean, c.judge_receipts.ensures.reads.crash.clean) in
     let it = c.requires.rows early in
     now_judged db c.args.name.now c.args.tenant.now (c.requires.names early) it.0 c.args.versions (get_by_text c.args.judged.now) (get_by_text c.remember.new.judged) it.1 it.2 it.3
     (c.in_ok-judge_receipts.ensures.found clean) (c.requires.judged early) c.remember.ensures

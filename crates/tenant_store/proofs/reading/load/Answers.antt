@@ -14,7 +14,7 @@ use Rattle.tenant_store.proofs.reading.load.Goals as goal
 pub returns-in_ok-load_tenant-in-Some-clause-found : goal.returns-in_ok-load_tenant-in-Some-clause-found
 returns-in_ok-load_tenant-in-Some-clause-found g c clean =
     let mid : HasCleanDisk (state g.S.Store c.find.new.self.0) = omega (arith, clean, c.load_tenant.ensures.crash.clean) in
-    let same = c.in_ok-tenant.ensures.kept mid (live_at_ok c.find.new.self.1 c.in_ok-tenant.field-0 c.in_ok-tenant.ensures.latches) in
+    let same = c.in_ok-tenant.ensures.reads.kept mid (live_at_ok c.find.new.self.1 c.in_ok-tenant.field-0 c.in_ok-tenant.ensures.reads.latches) in
     let i = c.in_ok-load_tenant-in-Some.field-0.value in
     has_inventory (state g.S.Store c.args.tables.now.0).now.trees c.args.name.now i
     (subst (λ (d : Database). (s : TenantState) × StandsFor d.trees c.args.name.now (Some s) × (i ≡ inventory_of s)) same (c.in_ok-load_tenant-in-Some.ensures.found clean))
@@ -22,7 +22,7 @@ returns-in_ok-load_tenant-in-Some-clause-found g c clean =
 pub returns-in_ok-load_tenant-in-Some-clause-judged : goal.returns-in_ok-load_tenant-in-Some-clause-judged
 returns-in_ok-load_tenant-in-Some-clause-judged g c clean =
     let mid : HasCleanDisk (state g.S.Store c.find.new.self.0) = omega (arith, clean, c.load_tenant.ensures.crash.clean) in
-    let same = c.in_ok-tenant.ensures.kept mid (live_at_ok c.find.new.self.1 c.in_ok-tenant.field-0 c.in_ok-tenant.ensures.latches) in
+    let same = c.in_ok-tenant.ensures.reads.kept mid (live_at_ok c.find.new.self.1 c.in_ok-tenant.field-0 c.in_ok-tenant.ensures.reads.latches) in
     subst (λ (d : Database). AreJudged d.trees (get_by_text c.load_tenant.new.judged)) same (c.in_ok-load_tenant-in-Some.ensures.judged clean)
 
 pub returns-in_err-tenant-clause-damaged : goal.returns-in_err-tenant-clause-damaged

@@ -25,7 +25,7 @@ use Rattle.tenant_tables.proofs.change.write_exceptions.Goals as goal
 -- the query of the pools is not refused
 pub returns-in_err-rows-clause-rows : goal.returns-in_err-rows-clause-rows
 returns-in_err-rows-clause-rows g c = λ clean damaged.
-    let first : HasCleanDisk (state g.S.Store c.args.tables.now.0) = omega (arith, clean, c.in_err-rows.ensures.crash.clean) in
+    let first : HasCleanDisk (state g.S.Store c.args.tables.now.0) = omega (arith, clean, c.in_err-rows.ensures.reads.crash.clean) in
     let p = err_from_is_err_and c.from_residual.result c.from_residual.ensures.1 in
     let fits : SFits w64 c.args.accepted.id = search rules in
     let made = pools_of (state g.S.Store c.args.tables.now.0).now.trees c.args.accepted.id (NewExceptions c.args.pool c.args.exceptions.now) fits (c.requires.suits first) in
@@ -35,7 +35,7 @@ returns-in_err-rows-clause-rows g c = λ clean damaged.
 -- the pool is there
 pub returns-in_default-clause-rows : goal.returns-in_default-clause-rows
 returns-in_default-clause-rows g c = λ clean _.
-    let first : HasCleanDisk (state g.S.Store c.args.tables.now.0) = omega (arith, clean, c.in_ok-rows.ensures.crash.clean) in
+    let first : HasCleanDisk (state g.S.Store c.args.tables.now.0) = omega (arith, clean, c.in_ok-rows.ensures.reads.crash.clean) in
     let fits : SFits w64 c.args.accepted.id = search rules in
     let made = pools_of (state g.S.Store c.args.tables.now.0).now.trees c.args.accepted.id (NewExceptions c.args.pool c.args.exceptions.now) fits (c.requires.suits first) in
     is_read (state g.S.Store c.args.tables.now.0).now.trees (word c.args.accepted.id) c.args.pool c.args.exceptions.now made (map pool_values c.in_ok-rows.rows.items) (c.in_ok-rows.ensures.found clean)
@@ -46,8 +46,8 @@ all_pair_values-requires g c = few_pairs c.args.exceptions.now c.pairs-pairs.res
 
 pub commit_exceptions-requires-clause-there : goal.commit_exceptions-requires-clause-there
 commit_exceptions-requires-clause-there g c clean =
-    let first : HasCleanDisk (state g.S.Store c.args.tables.now.0) = omega (arith, clean, c.in_ok-rows.ensures.crash.clean) in
-    let kept = c.in_ok-rows.ensures.kept clean (is_live c.pools_of.new.self.1 c.in_ok-rows.rows c.in_ok-rows.ensures.latches.0) in
+    let first : HasCleanDisk (state g.S.Store c.args.tables.now.0) = omega (arith, clean, c.in_ok-rows.ensures.reads.crash.clean) in
+    let kept = c.in_ok-rows.ensures.reads.kept clean (is_live c.list_of.new.self.1 c.in_ok-rows.rows c.in_ok-rows.ensures.reads.latches.0) in
     subst (λ (d : Database). IsNumber d.trees c.args.accepted.id) (sym kept) (c.requires.there first)
 
 -- how many there are
@@ -58,13 +58,13 @@ count_is g c =
     c.values_with-pool.ensures ∙ ap (λ n. take 8 (pool_values c.in-Some.row) ++ Int n ∷ []) count
 
 -- what is written is what is made
-turn : (g : given.Over) (c : goal.After-drop-row-2 g) (db : Trees) → HasCleanDisk (state g.S.Store c.pools_of.new.self.0)
-    → Accepts c.args.accepted (with_exceptions c.values_with-pool.result c.deref.result.now) (state g.S.Store c.pools_of.new.self.0).now.trees db
+turn : (g : given.Over) (c : goal.After-drop-row-2 g) (db : Trees) → HasCleanDisk (state g.S.Store c.list_of.new.self.0)
+    → Accepts c.args.accepted (with_exceptions c.values_with-pool.result c.deref.result.now) (state g.S.Store c.list_of.new.self.0).now.trees db
     → Accepts c.args.accepted (with_new_pairs c.args.pool c.args.exceptions.now) (state g.S.Store c.args.tables.now.0).now.trees db
 turn g c db clean written =
     let old = (state g.S.Store c.args.tables.now.0).now in
-    let first : HasCleanDisk (state g.S.Store c.args.tables.now.0) = omega (arith, clean, c.in_ok-rows.ensures.crash.clean) in
-    let kept = c.in_ok-rows.ensures.kept clean (is_live c.pools_of.new.self.1 c.in_ok-rows.rows c.in_ok-rows.ensures.latches.0) in
+    let first : HasCleanDisk (state g.S.Store c.args.tables.now.0) = omega (arith, clean, c.in_ok-rows.ensures.reads.crash.clean) in
+    let kept = c.in_ok-rows.ensures.reads.kept clean (is_live c.list_of.new.self.1 c.in_ok-rows.rows c.in_ok-rows.ensures.reads.latches.0) in
     let fits : SFits w64 c.args.accepted.id = search rules in
     let listed = subst (λ n. Lists (of_tenant pools_table n old.trees) (map pool_values c.in_ok-rows.rows.items)) (word_is c.args.accepted.id fits) (c.in_ok-rows.ensures.found clean) in
     let values = c.values_with-pool.result in
@@ -78,13 +78,13 @@ turn g c db clean written =
 
 pub returns-clause-done : goal.returns-clause-done
 returns-clause-done g c clean =
-    let mid : HasCleanDisk (state g.S.Store c.pools_of.new.self.0) = omega (arith, clean, c.commit_exceptions.ensures.crash.clean) in
+    let mid : HasCleanDisk (state g.S.Store c.list_of.new.self.0) = omega (arith, clean, c.commit_exceptions.ensures.crash.clean) in
     on_ok_weaker c.commit_exceptions.result (turn g c (state g.S.Store c.commit_exceptions.new.self.0).now.trees mid) (c.commit_exceptions.ensures.done clean)
 
 pub returns-clause-crash : goal.returns-clause-crash
 returns-clause-crash g c =
-    survives_then (state g.S.Store c.args.tables.now.0) (state g.S.Store c.pools_of.new.self.0) (state g.S.Store c.commit_exceptions.new.self.0) (λ _. ⊥) _ _ (λ clean db none. absurd none)
-    (λ clean db written. turn g c db (omega (arith, clean, c.commit_exceptions.ensures.crash.clean)) written) c.in_ok-rows.ensures.crash c.commit_exceptions.ensures.crash
+    survives_then (state g.S.Store c.args.tables.now.0) (state g.S.Store c.list_of.new.self.0) (state g.S.Store c.commit_exceptions.new.self.0) (λ _. ⊥) _ _ (λ clean db none. absurd none)
+    (λ clean db written. turn g c db (omega (arith, clean, c.commit_exceptions.ensures.crash.clean)) written) c.in_ok-rows.ensures.reads.crash c.commit_exceptions.ensures.crash
 
 pub returns-in_err-values-clause-crash : goal.returns-in_err-values-clause-crash
-returns-in_err-values-clause-crash g c = survives_weaker _ _ (λ _. ⊥) _ (λ clean db none. absurd none) c.in_ok-rows.ensures.crash
+returns-in_err-values-clause-crash g c = survives_weaker _ _ (λ _. ⊥) _ (λ clean db none. absurd none) c.in_ok-rows.ensures.reads.crash

@@ -35,13 +35,20 @@ returns-in_err-page-2-clause-damaged g c clean damaged = λ receipts h.
     let p = err_from_is_err_and c.from_residual-in_err-page-2.result c.from_residual-in_err-page-2.ensures.1 in
     let fault = same_fault c.from_residual-in_err-page-2.result p.0 _ _ p.1 p.2 damaged in
     let db = (state g.S.Store c.args.tables.now.0).now.trees in
-    let early : HasCleanDisk (state g.S.Store c.loop-rest.tables.0) = omega (arith, clean, c.receipts_after.ensures.crash.clean) in
+    let early : HasCleanDisk (state g.S.Store c.loop-rest.tables.0) = omega (arith, clean, c.receipts_behind-in-Some.ensures.reads.crash.clean) in
     let decides = subst (Leaves _ _ c.in-Ok.number) c.in-Some.is (c.loop-rest.invariant.leaves early) in
     let trees = ap (λ (d : Database). d.trees) (c.loop-rest.invariant.same early) in
     let left = decides.0 (receipts_are db c.args.tenant.now c.in-Ok.number receipts number h) in
     let rows = ap₂ (λ t d. rows_above t (of_tenant receipts_table (to_z w64 (of_z w64 c.args.tenant.now.id)) d)) c.as_str.ensures.value trees
     ∙ ap (λ n. rows_above (string_bytes c.in-Some.more.after) (of_tenant receipts_table n db)) (to_z-of_z w64 c.args.tenant.now.id fits) in
     unlisted _ c.in-Some.more.left (c.in_err-page-2.ensures.damaged clean (ap Err fault)) (subst (AreReceipts c.in-Some.more.left) (sym rows) left)
+
+-- parts that the tactic finds one at a time
+pub returns-in_err-page-2-clause-reads : goal.returns-in_err-page-2-clause-reads
+returns-in_err-page-2-clause-reads g c = record { full = search rules; kept = search rules; latches = search rules; crash = search rules }
+
+pub returns-in_err-rest-2-clause-reads : goal.returns-in_err-rest-2-clause-reads
+returns-in_err-rest-2-clause-reads g c = record { full = search rules; kept = search rules; latches = search rules; crash = search rules }
 
 -- one more page
 pub loop-rest-preserved : goal.loop-rest-preserved
@@ -51,7 +58,7 @@ loop-rest-preserved g c = record {
   same = search rules;
   crash = search rules;
   leaves = λ clean.
-      let early : HasCleanDisk (state g.S.Store c.loop-rest.tables.0) = omega (arith, clean, c.receipts_after.ensures.crash.clean) in
+      let early : HasCleanDisk (state g.S.Store c.loop-rest.tables.0) = omega (arith, clean, c.receipts_behind-in-Some.ensures.reads.crash.clean) in
       let decides = subst (Leaves _ _ c.in-Ok.number) c.in-Some.is (c.loop-rest.invariant.leaves early) in
       let trees = ap (λ (d : Database). d.trees) (c.loop-rest.invariant.same early) in
       let fits : SFits w64 c.args.tenant.now.id = search rules in

@@ -4,14 +4,13 @@ use Rattle.std.proofs.Common.{◌∙◌, map, of_z, to_z, rules, arith, refl, sy
 use Rattle.std.proofs.lemmas.Int.{to_z-of_z}
 use Rattle.std.proofs.lemmas.Result.{err_from_is_err_and}
 use Rattle.sqlite.specs.Held.{state}
-use Rattle.sqlite.specs.State.{HasCleanDisk}
-use Rattle.table_schema.specs.Values.{state_row, exception_row}
-use Rattle.table_schema.specs.Found.{Lists, ListsBy, Precedes, version_values, pool_values}
+use Rattle.table_schema.specs.Values.{exception_row}
+use Rattle.table_schema.specs.Found.{ListsBy, Precedes}
 use Rattle.table_schema.specs.Holds.{of_tenant}
-use Rattle.table_schema.specs.Layout.{maps_table, devices_table, pools_table, exceptions_table}
+use Rattle.table_schema.specs.Layout.{exceptions_table}
 use Rattle.tenant_tables.specs.Changes.{HasRows}
 use Rattle.tenant_tables.specs.Lists.{AreRowsOf}
-use Rattle.tenant_tables.proofs.Listed.{moved, same_tenant, worded, is_live, same_fault, not_versions, not_states, not_pools, not_exceptions, are_its_rows, has_rows_listed}
+use Rattle.tenant_tables.proofs.Listed.{kept_by, listed_by, same_tenant, worded, same_fault, not_versions, not_states, not_pools, not_exceptions, are_its_rows, has_rows_listed}
 use Rattle.tenant_tables.proofs.read.read_inventory.Goals as goal
 
 pub returns-in_err-versions-clause-damaged : goal.returns-in_err-versions-clause-damaged
@@ -24,34 +23,28 @@ returns-in_err-versions-clause-damaged g c = λ clean damaged i is has.
 pub returns-in_err-devices-clause-damaged : goal.returns-in_err-devices-clause-damaged
 returns-in_err-devices-clause-damaged g c = λ clean damaged i is has.
     let fits : SFits w64 c.args.tenant.now.id = search rules in
-    let early : HasCleanDisk (state g.S.Store c.versions_of.new.self.0) = omega (arith, clean, c.in_err-devices.ensures.crash.clean) in
-    let kept = c.in_ok-versions.ensures.kept early (is_live c.versions_of.new.self.1 c.in_ok-versions.versions c.in_ok-versions.ensures.latches.0) in
+    let one = kept_by g.S.Store _ _ _ c.in_ok-versions.ensures.reads (omega (arith, clean, c.in_err-devices.ensures.reads.crash.clean)) in
     let p = err_from_is_err_and c.from_residual-in_err-devices.result c.from_residual-in_err-devices.ensures.1 in
-    let its = same_tenant (λ db t. HasRows db t i) _ _ c.args.tenant.now fits (sym kept) has in
+    let its = same_tenant (λ db t. HasRows db t i) _ _ c.args.tenant.now fits (sym one.1) has in
     not_states _ (worded c.args.tenant.now) i is its (c.in_err-devices.ensures.damaged clean (same_fault c.from_residual-in_err-devices.result _ _ _ p.1 p.2 damaged))
 
 pub returns-in_err-pools-clause-damaged : goal.returns-in_err-pools-clause-damaged
 returns-in_err-pools-clause-damaged g c = λ clean damaged i is has.
     let fits : SFits w64 c.args.tenant.now.id = search rules in
-    let later : HasCleanDisk (state g.S.Store c.devices_of.new.self.0) = omega (arith, clean, c.in_err-pools.ensures.crash.clean) in
-    let early : HasCleanDisk (state g.S.Store c.versions_of.new.self.0) = omega (arith, later, c.in_ok-devices.ensures.crash.clean) in
-    let kept = c.in_ok-versions.ensures.kept early (is_live c.versions_of.new.self.1 c.in_ok-versions.versions c.in_ok-versions.ensures.latches.0) in
-    let still = c.in_ok-devices.ensures.kept later (is_live c.devices_of.new.self.1 c.in_ok-devices.devices c.in_ok-devices.ensures.latches.0) in
+    let two = kept_by g.S.Store _ _ _ c.in_ok-devices.ensures.reads (omega (arith, clean, c.in_err-pools.ensures.reads.crash.clean)) in
+    let one = kept_by g.S.Store _ _ _ c.in_ok-versions.ensures.reads two.0 in
     let p = err_from_is_err_and c.from_residual-in_err-pools.result c.from_residual-in_err-pools.ensures.1 in
-    let its = same_tenant (λ db t. HasRows db t i) _ _ c.args.tenant.now fits (sym (still ∙ kept)) has in
+    let its = same_tenant (λ db t. HasRows db t i) _ _ c.args.tenant.now fits (sym (two.1 ∙ one.1)) has in
     not_pools _ (worded c.args.tenant.now) i is its (c.in_err-pools.ensures.damaged clean (same_fault c.from_residual-in_err-pools.result _ _ _ p.1 p.2 damaged))
 
 pub returns-in_err-exceptions-clause-damaged : goal.returns-in_err-exceptions-clause-damaged
 returns-in_err-exceptions-clause-damaged g c = λ clean damaged i is has.
     let fits : SFits w64 c.args.tenant.now.id = search rules in
-    let last : HasCleanDisk (state g.S.Store c.pools_of.new.self.0) = omega (arith, clean, c.in_err-exceptions.ensures.crash.clean) in
-    let later : HasCleanDisk (state g.S.Store c.devices_of.new.self.0) = omega (arith, last, c.in_ok-pools.ensures.crash.clean) in
-    let early : HasCleanDisk (state g.S.Store c.versions_of.new.self.0) = omega (arith, later, c.in_ok-devices.ensures.crash.clean) in
-    let kept = c.in_ok-versions.ensures.kept early (is_live c.versions_of.new.self.1 c.in_ok-versions.versions c.in_ok-versions.ensures.latches.0) in
-    let still = c.in_ok-devices.ensures.kept later (is_live c.devices_of.new.self.1 c.in_ok-devices.devices c.in_ok-devices.ensures.latches.0) in
-    let yet = c.in_ok-pools.ensures.kept last (is_live c.pools_of.new.self.1 c.in_ok-pools.pools c.in_ok-pools.ensures.latches.0) in
+    let three = kept_by g.S.Store _ _ _ c.in_ok-pools.ensures.reads (omega (arith, clean, c.in_err-exceptions.ensures.reads.crash.clean)) in
+    let two = kept_by g.S.Store _ _ _ c.in_ok-devices.ensures.reads three.0 in
+    let one = kept_by g.S.Store _ _ _ c.in_ok-versions.ensures.reads two.0 in
     let p = err_from_is_err_and c.from_residual-in_err-exceptions.result c.from_residual-in_err-exceptions.ensures.1 in
-    let its = same_tenant (λ db t. HasRows db t i) _ _ c.args.tenant.now fits (sym (yet ∙ (still ∙ kept))) has in
+    let its = same_tenant (λ db t. HasRows db t i) _ _ c.args.tenant.now fits (sym (three.1 ∙ (two.1 ∙ one.1))) has in
     not_exceptions _ (worded c.args.tenant.now) i is its (c.in_err-exceptions.ensures.damaged clean (same_fault c.from_residual-in_err-exceptions.result _ _ _ p.1 p.2 damaged))
 
 pub returns-clause-damaged : goal.returns-clause-damaged
@@ -62,19 +55,10 @@ returns-clause-damaged g c = λ clean damaged i is has.
     let exceptions = c.deref.result.now in
     let fits : SFits w64 c.args.tenant.now.id = search rules in
     let fits-epoch : SFits w64 c.args.tenant.now.epoch = search rules in
-    let number = to_z-of_z w64 c.args.tenant.now.id fits in
-    let last : HasCleanDisk (state g.S.Store c.pools_of.new.self.0) = omega (arith, clean, c.in_ok-exceptions.ensures.crash.clean) in
-    let later : HasCleanDisk (state g.S.Store c.devices_of.new.self.0) = omega (arith, last, c.in_ok-pools.ensures.crash.clean) in
-    let early : HasCleanDisk (state g.S.Store c.versions_of.new.self.0) = omega (arith, later, c.in_ok-devices.ensures.crash.clean) in
-    let kept = c.in_ok-versions.ensures.kept early (is_live c.versions_of.new.self.1 c.in_ok-versions.versions c.in_ok-versions.ensures.latches.0) in
-    let still = c.in_ok-devices.ensures.kept later (is_live c.devices_of.new.self.1 c.in_ok-devices.devices c.in_ok-devices.ensures.latches.0) in
-    let yet = c.in_ok-pools.ensures.kept last (is_live c.pools_of.new.self.1 c.in_ok-pools.pools c.in_ok-pools.ensures.latches.0) in
-    let v = moved (λ db n. Lists (of_tenant maps_table n db) (map version_values versions)) (state g.S.Store c.args.tables.now.0).now _ _ _ refl number (c.in_ok-versions.ensures.found early) in
-    let d = moved (λ db n. Lists (of_tenant devices_table n db) (map state_row devices)) _ _ _ _ kept number (c.in_ok-devices.ensures.found later) in
-    let p = moved (λ db n. Lists (of_tenant pools_table n db) (map pool_values pools)) _ _ _ _ (still ∙ kept) number (c.in_ok-pools.ensures.found last) in
-    let e = moved (λ db n. ListsBy Precedes (of_tenant exceptions_table n db) (map exception_row exceptions)) _ _ _ _ (yet ∙ (still ∙ kept)) number
-    (subst (λ l. ListsBy Precedes (of_tenant exceptions_table (to_z w64 (of_z w64 c.args.tenant.now.id)) (state g.S.Store c.pools_of.new.self.0).now.trees) (map exception_row l)) (sym c.deref.ensures.value) (c.in_ok-exceptions.ensures.found clean)) in
-    let rows = are_its_rows _ c.args.tenant.now i is has versions devices pools exceptions v d p e in
+    let listed = listed_by g.S.Store _ _ _ _ _ _ _ _ c.args.tenant.now.id versions devices pools exceptions (to_z-of_z w64 c.args.tenant.now.id fits) c.in_ok-versions.ensures.reads c.in_ok-devices.ensures.reads c.in_ok-pools.ensures.reads
+    (omega (arith, clean, c.in_ok-exceptions.ensures.reads.crash.clean)) c.in_ok-versions.ensures.found c.in_ok-devices.ensures.found c.in_ok-pools.ensures.found
+    (subst (λ l. ListsBy Precedes (of_tenant exceptions_table (to_z w64 (of_z w64 c.args.tenant.now.id)) (state g.S.Store c.list_of-3.new.self.0).now.trees) (map exception_row l)) (sym c.deref.ensures.value) (c.in_ok-exceptions.ensures.found clean)) in
+    let rows = are_its_rows _ c.args.tenant.now i is has versions devices pools exceptions listed in
     c.in_ok-inventory.ensures.none c.in-None.is i is (subst (λ e. AreRowsOf i e versions devices pools exceptions) (sym (to_z-of_z w64 c.args.tenant.now.epoch fits-epoch)) rows)
 
 pub returns-in-Some-clause-found : goal.returns-in-Some-clause-found
@@ -85,19 +69,23 @@ returns-in-Some-clause-found g c = λ clean.
     let exceptions = c.deref.result.now in
     let fits : SFits w64 c.args.tenant.now.id = search rules in
     let fits-epoch : SFits w64 c.args.tenant.now.epoch = search rules in
-    let number = to_z-of_z w64 c.args.tenant.now.id fits in
-    let last : HasCleanDisk (state g.S.Store c.pools_of.new.self.0) = omega (arith, clean, c.in_ok-exceptions.ensures.crash.clean) in
-    let later : HasCleanDisk (state g.S.Store c.devices_of.new.self.0) = omega (arith, last, c.in_ok-pools.ensures.crash.clean) in
-    let early : HasCleanDisk (state g.S.Store c.versions_of.new.self.0) = omega (arith, later, c.in_ok-devices.ensures.crash.clean) in
-    let kept = c.in_ok-versions.ensures.kept early (is_live c.versions_of.new.self.1 c.in_ok-versions.versions c.in_ok-versions.ensures.latches.0) in
-    let still = c.in_ok-devices.ensures.kept later (is_live c.devices_of.new.self.1 c.in_ok-devices.devices c.in_ok-devices.ensures.latches.0) in
-    let yet = c.in_ok-pools.ensures.kept last (is_live c.pools_of.new.self.1 c.in_ok-pools.pools c.in_ok-pools.ensures.latches.0) in
-    let v = moved (λ db n. Lists (of_tenant maps_table n db) (map version_values versions)) (state g.S.Store c.args.tables.now.0).now _ _ _ refl number (c.in_ok-versions.ensures.found early) in
-    let d = moved (λ db n. Lists (of_tenant devices_table n db) (map state_row devices)) _ _ _ _ kept number (c.in_ok-devices.ensures.found later) in
-    let p = moved (λ db n. Lists (of_tenant pools_table n db) (map pool_values pools)) _ _ _ _ (still ∙ kept) number (c.in_ok-pools.ensures.found last) in
-    let e = moved (λ db n. ListsBy Precedes (of_tenant exceptions_table n db) (map exception_row exceptions)) _ _ _ _ (yet ∙ (still ∙ kept)) number
-    (subst (λ l. ListsBy Precedes (of_tenant exceptions_table (to_z w64 (of_z w64 c.args.tenant.now.id)) (state g.S.Store c.pools_of.new.self.0).now.trees) (map exception_row l)) (sym c.deref.ensures.value) (c.in_ok-exceptions.ensures.found clean)) in
+    let listed = listed_by g.S.Store _ _ _ _ _ _ _ _ c.args.tenant.now.id versions devices pools exceptions (to_z-of_z w64 c.args.tenant.now.id fits) c.in_ok-versions.ensures.reads c.in_ok-devices.ensures.reads c.in_ok-pools.ensures.reads
+    (omega (arith, clean, c.in_ok-exceptions.ensures.reads.crash.clean)) c.in_ok-versions.ensures.found c.in_ok-devices.ensures.found c.in_ok-pools.ensures.found
+    (subst (λ l. ListsBy Precedes (of_tenant exceptions_table (to_z w64 (of_z w64 c.args.tenant.now.id)) (state g.S.Store c.list_of-3.new.self.0).now.trees) (map exception_row l)) (sym c.deref.ensures.value) (c.in_ok-exceptions.ensures.found clean)) in
     let i = c.in-Some.inventory.value in
     let it = rw c.in-Some.is at c.in_ok-inventory.ensures.some in
     let are = subst (λ n. AreRowsOf i n versions devices pools exceptions) (to_z-of_z w64 c.args.tenant.now.epoch fits-epoch) it.1 in
-    (it.0, has_rows_listed (state g.S.Store c.args.tables.now.0).now.trees c.args.tenant.now i versions devices pools exceptions v d p e are)
+    (it.0, has_rows_listed (state g.S.Store c.args.tables.now.0).now.trees c.args.tenant.now i versions devices pools exceptions listed are)
+
+-- parts that the tactic finds one at a time
+pub returns-in_err-exceptions-clause-reads : goal.returns-in_err-exceptions-clause-reads
+returns-in_err-exceptions-clause-reads g c = record { full = search rules; kept = search rules; latches = search rules; crash = search rules }
+
+pub returns-in_err-inventory-clause-reads : goal.returns-in_err-inventory-clause-reads
+returns-in_err-inventory-clause-reads g c = record { full = search rules; kept = search rules; latches = search rules; crash = search rules }
+
+pub returns-clause-reads : goal.returns-clause-reads
+returns-clause-reads g c = record { full = search rules; kept = search rules; latches = search rules; crash = search rules }
+
+pub returns-in-Some-clause-reads : goal.returns-in-Some-clause-reads
+returns-in-Some-clause-reads g c = record { full = search rules; kept = search rules; latches = search rules; crash = search rules }

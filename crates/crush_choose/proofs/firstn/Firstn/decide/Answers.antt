@@ -6,4 +6,4 @@ use Rattle.crush_choose.proofs.firstn.Firstn.decide.Goals as goal
 pub returns-then-is_some-clause-value : goal.returns-then-is_some-clause-value
 unfolding decided
 returns-then-is_some-clause-value c =
-    least_found (firstn_try c.args.self.now.tables.now c.args.self.now.weights.now c.args.self.now.call.now c.args.self.now.items.now c.args.self.now.leaves.now c.args.rep) c.loop-round.round c.args.self.now.call.now.tries c.firstn_try-mark.result c.loop-round.invariant.none (omega arith) c.firstn_try-mark.ensures.value (sym c.is_some.ensures ∙ c.if-is_some.true)
+    least_found (firstn_try c.args.scratch.now c.args.self.now.weights.now c.args.self.now.call.now c.args.self.now.items.now c.args.self.now.leaves.now c.args.rep) c.loop-round.round c.args.self.now.call.now.tries c.firstn_try-mark.result c.loop-round.invariant.none (omega arith) (rw c.loop-round.invariant.same at c.firstn_try-mark.ensures.value) (sym c.is_some.ensures ∙ c.if-is_some.true)

@@ -1,12 +1,11 @@
 use Rattle.std.proofs.Common.{◌≡◌, ◌≤◌, ◌-◌, ◌++◌, length, drop}
-use Rattle.crush_bucket.specs.Tables.{scratch_of}
 use Rattle.crush_choose.specs.Rules.{step_out}
 use Rattle.crush_choose.specs.Private.Runs.{call_of}
 use Rattle.crush_choose.proofs.plan.Plan.step_out.Given as goal
 
 abbrev pub invariant-loop-slot : goal.invariant-loop-slot
 invariant-loop-slot l = record {
-  rest : l.rows.out ++ step_out l.self.tables.now l.self.weights.now (call_of l.self) (l.size - length l.rows.out) (drop l.slot-index l.working) ≡ step_out l.self.tables.now l.self.weights.now (call_of l.self) l.size l.working;
+  rest : l.rows.out ++ step_out l.initial.scratch l.self.weights.now (call_of l.self) (l.size - length l.rows.out) (drop l.slot-index l.working) ≡ step_out l.initial.scratch l.self.weights.now (call_of l.self) l.size l.working;
   room : length l.rows.out ≤ l.size;
-  fits : l.scratch ≡ scratch_of l.self.tables.now;
+  same : l.scratch ≡ l.initial.scratch;
 }

@@ -1,10 +1,12 @@
-use Rattle.std.proofs.Common.{rules, ◌≡◌, Some, ap, subst, sym, ◌∙◌}
-use Rattle.tenant_core.specs.Cached.{Asks, IsCachedFor}
+use Rattle.std.proofs.Common.{rules, ◌≡◌, ◌==◌, Some, ap, subst, sym, ◌∙◌}
+use Rattle.std.specs.Prelude.{find}
+use Rattle.tenant_core.specs.Cached.{IsCachedFor}
 use Rattle.tenant_core.specs.States.{HasInventory}
 use Rattle.tenant_cache.specs.Kept.{Ready, kept_at}
 use Rattle.tenant_cache.specs.Ready.{AreNumbersOf}
-use Rattle.tenant_state.specs.State.{pool}
-use Rattle.tenant_cache.proofs.NumberFacts.{asked_pool, known_among, known_renumbered, true_among, true_renumbered}
+use Rattle.tenant_state.specs.State.{TenantPool, pool}
+use Rattle.tenant_cache.proofs.FoundFacts.{is_for, own_pool}
+use Rattle.tenant_cache.proofs.NumberFacts.{known_among, known_renumbered, true_among, true_renumbered}
 use Rattle.tenant_cache.proofs.ready_store.CachedStoreTenantStore.cached.Goals as goal
 
 -- after a look-up no more is kept than before
@@ -28,8 +30,9 @@ find-requires g c =
     let at : kept_at c.self.inside.kept c.args.name.now ≡ Some c.in-Ok-Some.ready.value = search rules in
     let inventory = c.deref-2.ensures ∙ c.inventory.ensures ∙ ap (λ (r : Ready). r.inventory) (c.deref.ensures ∙ sym c.deref-3.ensures) in
     let known = subst (AreNumbersOf c.self.inside.cache) (sym c.deref-3.ensures) (c.self.invariant.numbers c.args.name.now c.in-Ok-Some.ready.value at) in
-    let there = subst (λ i. pool c.in_ok-pool.pool.now.parts.id i ≡ Some c.in_ok-pool.pool.now) inventory
-    (asked_pool c.args.query.now c.deref-2.result.now c.in_ok-pool.pool.now c.in_ok-pool.asked c.in_ok-pool.ensures) in
+    let found : Some c.in_ok-pool.pool.now ≡ find (λ p. p.parts.id == c.in_ok-id.id) c.pools.result.now = search rules in
+    let its = sym (found ∙ ap (find (λ (p : TenantPool). p.parts.id == c.in_ok-id.id)) c.pools.ensures) in
+    let there = subst (λ i. pool c.in_ok-pool.pool.now.parts.id i ≡ Some c.in_ok-pool.pool.now) inventory (own_pool c.in_ok-id.id c.deref-2.result.now c.in_ok-pool.pool.now its) in
     record { known = known; there = there }
 
 -- beside the name there may be other numbers, which are those of the cache too
@@ -77,5 +80,8 @@ pub returns-clause-fits : goal.returns-clause-fits
 returns-clause-fits g c =
     let first = c.deref-2.ensures ∙ c.inventory.ensures ∙ ap (λ (r : Ready). r.inventory) (c.deref.ensures ∙ sym c.deref-3.ensures) in
     let second = ap (λ (r : Ready). r.inventory) (c.deref-3.ensures ∙ sym c.deref-4.ensures) ∙ sym c.inventory-2.ensures in
-    let asks = subst (λ i. Asks c.args.query.now i c.in_ok-pool.pool.now c.in_ok-pool.asked) first c.in_ok-pool.ensures in
-    subst (λ i. IsCachedFor c.args.query.now i c.in_ok-cached.cached) (second ∙ sym c.in-Ok.ensures.cases) (c.in_ok-cached.ensures.found c.args.query.now asks)
+    let found : Some c.in_ok-pool.pool.now ≡ find (λ p. p.parts.id == c.in_ok-id.id) c.pools.result.now = search rules in
+    let its = sym (found ∙ ap (find (λ (p : TenantPool). p.parts.id == c.in_ok-id.id)) c.pools.ensures) in
+    let there = subst (λ i. pool c.in_ok-id.id i ≡ Some c.in_ok-pool.pool.now) first its in
+    let fits = is_for c.args.query.now c.in_ok-id.id c.deref-3.result.now.inventory c.in_ok-pool.pool.now c.in_ok-id.asked c.in_ok-cached.cached c.in_ok-id.ensures there c.in_ok-cached.ensures.found in
+    subst (λ i. IsCachedFor c.args.query.now i c.in_ok-cached.cached) (second ∙ sym c.in-Ok.ensures.cases) fits
