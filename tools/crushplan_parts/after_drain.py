@@ -54,7 +54,7 @@ class AfterDrain:
         others = self.changed_elsewhere()
         own = {it.id: it for it in plan.pools.values() if has & self.below(it) or self.key(it) in others}
         self.pools = list(own)
-        self.texts = [it and plan.written(it, own) for it in (self.gone, self.weightless)]
+        self.texts = [it and plan.acceptance.written(it, own) for it in (self.gone, self.weightless)]
 
     def key(self, pool):
         """Returns a pool's rule and weight set."""

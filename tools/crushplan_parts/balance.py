@@ -7,7 +7,7 @@ from .balancing import Balancing, rule_fault
 from .faults import Fault, counted, some
 from .names import of_class
 from .output import Answer, Progress
-from .placing import Note
+from .notes import Note
 from .proposal import Proposal, Stopped, until_fill, within_moves
 from .summary import looks_at_room
 from .usage import pools_named

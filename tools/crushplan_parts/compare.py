@@ -9,7 +9,7 @@ from .crush_map import mark_holes
 from .drawing import of_counts
 from .faults import counted, some
 from .output import Answer, Table, devices_text, sized
-from .placing import Note
+from .notes import Note
 from .read_dump import read_dump
 from .pgs import entries_said
 from .reports import COPY, listed, used_said
@@ -51,7 +51,7 @@ class NewMap:
                 self.leave_out(pool, *why)
             else:
                 self.pools[pool.id] = pool
-        self.texts = plan.accepted(map_, self.pools, self.leave_out)
+        self.texts = plan.acceptance.accepted(map_, self.pools, self.leave_out)
 
     def leave_out(self, pool, kind, why):
         self.left_out.append(pool)
@@ -87,7 +87,7 @@ class NewMap:
                 and not pool_fault(self.map, pool, plan.cluster.described)
             ):
                 own[id_] = pool
-        texts = plan.accepted(self.map, own, lambda *_: None)
+        texts = plan.acceptance.accepted(self.map, own, lambda *_: None)
         if not own:
             return []
         for it in own.values():

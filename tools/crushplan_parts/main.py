@@ -53,7 +53,7 @@ def answered(asked, beside):
         if asked.command == "fetch":
             answer, plan = command(asked), None
         else:
-            from .placing import MapRefused
+            from .acceptance import MapRefused
 
             try:
                 answer, plan = found_by(command, asked, beside, asked.command in AGAIN)
@@ -82,9 +82,9 @@ def found_by(command, asked, beside, is_hopeful):
         try:
             answer = command(plan, asked)
         except Exception:
-            plan.confirm()
+            plan.acceptance.confirm()
             raise
-        plan.confirm()
+        plan.acceptance.confirm()
         return doubted(answer, plan.doubt), plan
     finally:
         client.end()

@@ -1,48 +1,19 @@
 """What of a cluster is computed, and by which questions to crushcalc: where groups lie, which can
 move, how much lies on each device."""
+from .acceptance import Acceptance
 from .cluster import State
-from .computable import MOST_POOLS, pool_fault, sets_in_use
+from .computable import MOST_POOLS, pool_fault
 from .crush_map import ONE
-from .faults import Fault, counted, some
+from .faults import some
+from .notes import Note, known_pairs, on_oddities, on_rounded_sets
 from .pgs import Compared, doubt_by_usage
 from .run import Run
-from .service import Later, at_once, change, side_by_side
+from .service import at_once, side_by_side
 from .settled import Exceptions, led
-from .texts import Texts
 from .tree import Tree
 from .upmap_rules import Keeper
 
-MOST_FAULTS = 200  # declarations that are left out of a map, one after the other
 MOST_NAMES = 4  # of devices in a note
-
-
-class MapRefused(Exception):
-    """A plan's map is refused, in which a part has to be left out."""
-
-
-class Note:
-    """Something that isn't computed, or is otherwise than it seems, with what it touches. `open`
-    is whether an answer lacks it; `short` is the text where it stands under that head."""
-
-    def __init__(self, kind, text, *, pools=(), devices=(), groups=(), open_=True, short=None):
-        self.kind, self.text, self.pools, self.devices, self.groups, self.open = (
-            kind,
-            text,
-            sorted(pools),
-            sorted(devices),
-            list(groups),
-            open_,
-        )
-        self.short = short or text
-
-    def said(self):
-        return {
-            "kind": self.kind,
-            "text": self.text,
-            "pools": self.pools,
-            "devices": self.devices,
-            "groups": self.groups,
-        }
 
 
 class Plan:
@@ -62,19 +33,19 @@ class Plan:
             else:
                 self.pools[pool.id] = pool
         self.more_pools()
-        self.unread = None  # the map as long as it isn't known whether it is refused
+        self.acceptance = Acceptance(cluster, client)
         if is_hopeful and self.pools:
-            self.texts = self.written(self.map, self.pools)
-            self.unread = Later(lambda: self.imported(self.texts))
+            self.texts = self.acceptance.hoped(self.map, self.pools)
         else:
-            self.texts = self.accepted(self.map, self.pools, self.leave_out)
+            self.texts = self.acceptance.accepted(self.map, self.pools, self.leave_out)
         self.known = self.texts.devices()
-        self.pairs = {pool: self.known_pairs(self.pools[pool]) for pool in self.pools}
+        self.pairs = {}
+        for pool in self.pools.values():
+            self.note_pairs(pool)
         self.exceptions = Exceptions(cluster.lists, cluster.primaries, cluster.affinity)
         self.affine = {it.id for it in self.pools.values() if cluster.affinity.keys() & self.may_have(it)}
         self.keeper = Keeper(self.map, self.state)
-        self.note_oddities(self.pools)
-        self.note_rounded_sets()
+        self.notes += on_oddities(self, self.pools) + on_rounded_sets(self)
 
     # ---- what is computed
 
@@ -106,179 +77,18 @@ class Plan:
         for pool in list(self.pools.values())[MOST_POOLS:]:
             self.leave_out(pool, "limit", f"crushcalc takes {MOST_POOLS} pools")
 
-    def accepted(self, map_, pools, leave_out):
-        """Returns the texts of a map for some pools, a dictionary, without the rules and pools that
-        the service refuses: these are left out."""
-        for _ in range(MOST_FAULTS):
-            texts = self.written(map_, pools)
-            if not pools:
-                return texts
-            replies = self.imported(texts)
-            refused = next(((text, said) for text, ((status, said),) in zip(texts.all, replies) if status != 201), None)
-            if refused is None:
-                return texts
-            text, said = refused
-            if said.get("error") != "map_refused":
-                raise Fault(f"{self.client.where} refuses the map: {said}")
-            name, touched = self.touched_by(texts, text, said["line"], pools)
-            for pool in touched:
-                leave_out(
-                    pool,
-                    "map",
-                    (
-                        f"crushcalc refuses the {name} by its code {said['fault']} ('crushcalc check --help' says what"
-                        " it means)"
-                    ),
-                )
-                pools.pop(pool.id, None)
-        raise Fault(f"{map_.file}: crushcalc refuses more than {MOST_FAULTS} declarations of it")
-
-    def imported(self, texts):
-        """Returns the replies to texts of a map."""
-        return at_once(self.client, [[change("/maps", text=it.text())] for it in texts.all])
-
-    def confirm(self):
-        """Waits until the map is read; MapRefused where a part of it is refused."""
-        unread = self.unread
-        if unread is not None:
-            if any(status != 201 for ((status, _),) in unread.result()):
-                raise MapRefused
-            self.unread = None
-
-    def written(self, map_, pools):
-        """Returns the texts of a map for pools: with the devices that have states, or that the
-        present map has."""
-        return Texts(map_, pools.values(), self.cluster.states.keys() | self.map.devices.keys())
-
-    def touched_by(self, texts, text, line, pools):
-        """Returns the declaration that a line of a text belongs to, in words, and the pools that it
-        touches."""
-        map_, (kind, key) = texts.map, text.at_line(line)
-        own = [it for it in pools.values() if texts.of[it.id] is text]
-        if kind == "rule":
-            return f"rule {map_.rules[key].name}", [it for it in own if it.rule == key] or own
-        if kind == "bucket":
-            below = [it for it in own if any(key in map_.buckets_below(item) for item in map_.rules[it.rule].takes())]
-            return f"bucket {map_.buckets[key].name}", below or own
-        return f"{kind} {key}" if key is not None else "map", own
-
     def take_in(self, pool):
         """Takes a pool for computed after all, which was left out."""
         self.left_out.pop(pool.id)
         self.notes = [it for it in self.notes if not (it.open and it.pools == [pool.id])]
-        self.pairs[pool.id] = self.known_pairs(pool)
+        self.note_pairs(pool)
         self.by_exception.pop(pool.id, None)
-        self.note_oddities({pool.id: pool})
+        self.notes += on_oddities(self, {pool.id: pool})
 
-    def known_pairs(self, pool):
-        """Returns the upmap items of a pool that crushcalc can have: of its groups, and of devices
-        that the text declares."""
-        found = {}
-        for group, pairs in self.cluster.pairs.get(pool.id, {}).items():
-            odd = [it for it in pairs if it[1] not in self.known]
-            if odd:
-                self.notes.append(
-                    Note(
-                        "upmap",
-                        (
-                            f"{pool.group_name(group)} has upmap items to devices that aren't there:"
-                            f" {some([f'osd.{it[1]}' for it in odd])}"
-                        ),
-                        pools=[pool.id],
-                        groups=[pool.group_name(group)],
-                        open_=False,
-                    )
-                )
-            own = [it for it in pairs if it[0] in self.known and it[1] in self.known and it[0] != it[1]]
-            if own and group < pool.pg_num:
-                found[group] = own
-        return found
-
-    def note_oddities(self, pools):
-        """Notes what the files have that placements here don't have, of pools that are computed, by
-        id."""
-        cluster = self.cluster
-        for pool in pools.values():
-            if pool.split_to:
-                self.notes.append(
-                    Note(
-                        "split",
-                        (
-                            f"pool {pool.name} is being split or merged (pg_num {pool.pg_num} on its way to"
-                            f" {pool.split_to[0]}, pgp_num {pool.pgp_num} to {pool.split_to[1]}): it is computed as it"
-                            " is now, and its groups move by themselves"
-                        ),
-                        pools=[pool.id],
-                        devices=self.devices_of(pool),
-                        open_=False,
-                    )
-                )
-            if pool.object_hash != 2:
-                self.notes.append(
-                    Note(
-                        "object hash",
-                        (
-                            f"pool {pool.name} has another object hash than rjenkins: where its groups lie is computed,"
-                            " where its objects lie isn't"
-                        ),
-                        pools=[pool.id],
-                        devices=self.devices_of(pool),
-                        open_=False,
-                    )
-                )
-            if pool.bytes is not None and pool.pg_num & (pool.pg_num - 1):
-                self.notes.append(
-                    Note(
-                        "pg_num",
-                        (
-                            f"pool {pool.name} has {pool.pg_num} groups, which is no power of two: some of them have"
-                            " twice the objects of others. What moves, and how full devices get, is said by that, but"
-                            " bytes before and after as if all had as many"
-                        ),
-                        pools=[pool.id],
-                        devices=self.devices_of(pool),
-                        open_=False,
-                    )
-                )
-        for kind in ("pg_temp", "primary_temp"):
-            own = {pool: groups for pool, groups in cluster.temporary.get(kind, {}).items() if pool in pools}
-            has = f"a temporary {'list' if kind == 'pg_temp' else 'primary'} ({kind})"
-            self.note_groups(kind, own, has, "what is said is where they lie once that is over")
-
-    def note_rounded_sets(self):
-        """Notes which groups may lie otherwise by weight sets that are rounded."""
-        for key, pools in sets_in_use(self.map, self.pools.values()).items():
-            if self.map.weight_sets[key].rounded:
-                self.notes.append(
-                    Note(
-                        "weight set",
-                        (
-                            f"{self.map.file} has rounded weights of 256 and more in the weight set choose_args {key}:"
-                            f" a few groups of {self.pools_text([it.id for it in pools])} may lie otherwise"
-                        ),
-                        pools=[it.id for it in pools],
-                        open_=False,
-                    )
-                )
-
-    def note_groups(self, kind, lists, has, what):
-        """Notes groups that have something: of each pool, of each group, its devices."""
-        written = [f"{pool}.{group:x}" for pool, groups in sorted(lists.items()) for group in sorted(groups)]
-        devices = {it for groups in lists.values() for own in groups.values() for it in own}
-        if written:
-            of = f"{some(written)}, of {self.pools_text(sorted(lists))}" + (
-                f" and {self.names_of(devices)}" if devices else ""
-            )
-            self.notes.append(
-                Note(
-                    kind,
-                    f"{counted(len(written), 'group')} with {has}: {of}; {what}",
-                    pools=lists,
-                    devices=devices,
-                    groups=written,
-                    open_=False,
-                )
-            )
+    def note_pairs(self, pool):
+        """Takes in the upmap items of a pool that crushcalc can have."""
+        self.pairs[pool.id], notes = known_pairs(self, pool)
+        self.notes += notes
 
     # ---- what stands in the answers
 
@@ -382,9 +192,9 @@ class Plan:
         try:
             found = at_once(self.client, [side.requests for _, side in sides])
         except Exception:
-            self.confirm()
+            self.acceptance.confirm()
             raise
-        self.confirm()
+        self.acceptance.confirm()
         for (run, side), replies in zip(sides, found):
             run.take(side, replies)
         return runs

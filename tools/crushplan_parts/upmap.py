@@ -7,7 +7,7 @@ from .cluster import text_of
 from .drawing import of_devices
 from .faults import Fault, counted, some
 from .output import Answer, Table, devices_text, sized
-from .placing import Note
+from .notes import Note
 from .reports import COPY, listed
 from .shares import percent
 from .summary import Moved, PoolChange, devices_of, total, whole
