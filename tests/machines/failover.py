@@ -35,6 +35,7 @@ at={at} files={folder}
 served() {{
     echo $$ >$at/keeper.pid
     while :; do
+        while ! grep -q " $files " /proc/self/mounts; do sleep 0.5; done
         date +%s.%N >>$at/starts
         {inside} {program} serve --db $files/tenants.db --port {port} &
         echo $! >$at/server.pid
@@ -151,9 +152,16 @@ class Pair(Certified):
         (at / "keepalived.conf").write_text(text.replace("/etc/keepalived/", f"{at}/"))
         self.write_machine(name, [PORT])
 
+    def is_mounted(self, name):
+        """Whether a host has the file system; a mount whose ceph-fuse has ended is none."""
+        try:
+            return self.files(name).is_mount()
+        except OSError:
+            return False
+
     def mount(self, name):
         subprocess.run([self.at(name) / "keeper", "mount"], timeout=PATIENCE)
-        if not self.files(name).is_mount():
+        if not self.is_mounted(name):
             raise OSError(f"{name} has no file system: {(self.at(name) / 'fuse.log').read_text()[-500:]}")
 
     def keep(self, name):
@@ -294,7 +302,7 @@ def failover(pair, kind):
     """The host that serves is struck; returns its name and the seconds until the other answers."""
     name = awaited(pair.master, "a host that serves")
     other = next(it for it in PAIR if it != name)
-    awaited(lambda: pair.files(other).is_mount() and pair.is_alive(other), f"the file system of {other}")
+    awaited(lambda: pair.is_mounted(other) and pair.is_alive(other), f"the file system of {other}")
     time.sleep(3 * SLOW)  # keepalived sees it too
     start = time.monotonic()
     strike(pair, name, kind)
@@ -422,7 +430,7 @@ def failovers(pair, count):
         subprocess.run([pair.at(name) / "keeper", "stop"])
     if why := next((it["wrong"] for it in found if it["wrong"]), None):
         return why
-    name = next(it for it in PAIR if pair.files(it).is_mount() and pair.is_alive(it))
+    name = next(it for it in PAIR if pair.is_mounted(it) and pair.is_alive(it))
     copy = copy_to(pair.files(name) / "tenants.db", pair.folder)
     got = held(copy)
     probes = {it: got.pop(f"probe-{it}", None) for it in PAIR}
