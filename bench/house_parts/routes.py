@@ -69,7 +69,7 @@ PLACING = {
     "Firstn::decide": "is_due can_place",
     "Firstn::leaf_below": "is_due can_have_leaf",
     "is_in": "hash2",
-    "set_up": "Excepted::new items",
+    "Placing::set_up": "Excepted::new items",
 }
 GROUP = {
     "decide_request": "decide_loaded",
@@ -79,6 +79,8 @@ GROUP = {
 }
 LOADED = {"decide_cached": "cached answer_cached", "CachedStore::load": "WatchedStore.load keep"}
 USAGE = {
+    "decide_cached": "answer_cached",
+    "CachedStore::cached": "get inventory pools find",
     "receipt_of": "find_receipt as_str",
     "Answers::build": "run_next items",
     "Placer::look_ahead": "seed_of parts look_ahead",
@@ -114,7 +116,9 @@ def route(variants, *not_by):
 
 ROUTES = {
     "group": route(ASKS | {"Route": "Group", "Query": "Group", "Asked": "Group"}, NO_BODY, KEPT, PLACING, GROUP),
-    "locate": route(ASKS | {"Route": "Object", "Query": "Object", "Asked": "Group"}, KEPT, PLACING, GROUP),
+    "locate": route(
+        ASKS | {"Route": "Object", "Query": "Object", "Asked": "Object", "Cached": "Located"}, KEPT, PLACING, GROUP
+    ),
     "usage": route(ASKS | {"Route": "Usage", "Query": "Usage"}, NO_BODY, PLACING, LOADED, USAGE),
     "import": route(CHANGES | {"Route": "ImportMap", "Order": "ImportMap"}, KEPT, LOADED, IMPORT),
 }

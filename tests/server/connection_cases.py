@@ -1,14 +1,17 @@
 """Connections to the program as a server, each with what it has to send back by the rules of
 requests."""
+import contextlib
+import os
 import pathlib
 import resource
 import signal
 import socket
+import struct
 import subprocess
 import threading
 import time
 
-from program.hostile_cases import BODIES, BODY_LIMIT, HEADS, exceptions
+from program.hostile_cases import BODIES, BODY_LIMIT, HEADS, LENGTH, exceptions
 from model.maps import with_devices
 from model.messages import EXISTS, TOO_LARGE, dropped, import_of, made, short, there
 from server.served import SECONDS, Server, asked, free_port, message, read_reply, replies_on, reset, run_to_end
@@ -18,10 +21,15 @@ HERE = pathlib.Path(__file__).resolve().parent
 WAIT = 5
 MESSAGES = 10_000
 HEAD_LIMIT = 8_192  # bytes that the server reads at once at most
+DATA_SEGMENTS = 152  # where Linux's tcp_info has the number of segments with data that have come
 # pairs of messages, and the seconds from which on their replies are slow: a system that has nothing
 # to send puts off an acknowledgement for 0.04
 PAIRS, SLOW = 40, 0.03
 LITTLE = 1 << 20  # bytes that may come and go without a body
+# seconds between the bytes that a client goes on sending, and how long it does so at most
+BETWEEN, LONG = 0.02, 20
+# bytes that a client sends behind a refused head, more than the server's system keeps unread
+MORE = 1 << 20
 
 
 def unlike(got, want):
@@ -95,6 +103,28 @@ def two_replies_at_once(program, db):
                 return f"the replies are {found}"
     more = slow[apart] - slow[together]
     return None if more <= PAIRS // 2 else f"{slow[apart]} of {PAIRS} are slow, and {slow[together]} read at one time"
+
+
+def segments_of(connection):
+    """How many segments with data have come over a connection."""
+    return struct.unpack_from("I", connection.getsockopt(socket.IPPROTO_TCP, socket.TCP_INFO, 256), DATA_SEGMENTS)[0]
+
+
+def messages_of_one_segment(program, db):
+    """Messages that come in one segment are read at once, and their replies are sent at once: they
+    come in one segment too, or few."""
+    one = message(b"GET /t/a")
+    count = HEAD_LIMIT // len(one)
+    with Server(program, db) as server, server.connect() as connection, connection.makefile("rb") as stream:
+        connection.sendall(message(b"PUT /t/a"))
+        read_reply(stream)
+        before = segments_of(connection)
+        connection.sendall(one * count)
+        found = [read_reply(stream) for _each in range(count)]
+        came = segments_of(connection) - before
+    return unlike(found, [(there(b"a"), False)] * count) or (
+        None if 0 < came <= 4 else f"{count} replies come in {came} segments"
+    )
 
 
 def a_log_that_cannot_be_copied(program, db):
@@ -232,12 +262,15 @@ def silent_clients_in_a_row(program, db):
 
 def a_client_that_never_reads(program, db):
     """Replies of many megabytes that nobody reads: a write that moves nothing for five seconds ends
-    the connection, and the next client is served."""
+    the connection, and the next client is served. Before there may be writes that are done in part
+    after five seconds, as long as the message took less than thirty."""
     with Server(program, db) as server:
         asked(server, [b"PUT /t/a", import_of(with_devices(1_000))])
         with server.connect(room=4_096) as connection:
+            start = time.monotonic()
             connection.sendall(message(b"GET /t/a/maps/1") * 1_000)
-            return goes_on(server)
+            why, spent = goes_on(server), time.monotonic() - start
+            return why or (None if WAIT - 1 < spent < 8 * WAIT else f"the next waited {spent:.1f} seconds")
 
 
 def a_client_that_stays(program, db):
@@ -249,6 +282,49 @@ def a_client_that_stays(program, db):
         start = time.monotonic()
         why, spent = why or goes_on(server), time.monotonic() - start
         return why or (None if spent < WAIT - 1 else f"the next waited {spent:.1f} seconds")
+
+
+def a_client_that_goes_on_sending(program, db):
+    """A client that has its last reply and goes on sending byte by byte keeps nobody from being
+    served for long: what it sends is taken by so many reads at most."""
+
+    def go_on():
+        try:
+            while time.monotonic() - start < LONG:
+                connection.send(b"x")
+                time.sleep(BETWEEN)
+        except OSError:  # the server has ended the connection
+            pass
+
+    with Server(program, db) as server, server.connect() as connection:
+        connection.sendall(message(b"PUT /t/a", b"Connection: close"))
+        why, start = unlike(replies_on(connection), ([made(b"a")], True)), time.monotonic()
+        sender = threading.Thread(target=go_on)
+        sender.start()
+        why, spent = why or goes_on(server), time.monotonic() - start
+        sender.join()
+        return why or (None if spent < LONG / 2 else f"the next waited {spent:.1f} seconds")
+
+
+def a_refused_body_that_still_comes(program, db):
+    """A client whose body is refused by its head, and who has sent a megabyte of it, reads the
+    whole refusal and then the end of the connection. What it has sent is taken: a socket that is
+    closed before resets the connection."""
+    with Server(program, db) as server:
+        for header, want in (
+            (b"Content-Length: %d" % (BODY_LIMIT + 1), TOO_LARGE),
+            (b"Transfer-Encoding: chunked", LENGTH),
+        ):
+            with server.connect() as connection:
+                connection.sendall(b"POST /t/a/maps HTTP/1.1\r\n" + header + b"\r\n\r\n" + bytes(MORE))
+                why = unlike(replies_on(connection), ([want], True))
+                # the next client is served once the server has closed this one's socket
+                why = why or goes_on(server)
+                if error := connection.getsockopt(socket.SOL_SOCKET, socket.SO_ERROR):
+                    why = why or os.strerror(error)
+            if why:
+                return f"{short(want)}: {why}"
+        return None
 
 
 def resets(program, db):
@@ -309,17 +385,37 @@ def accepts_that_fail(program, db):
                     return f"with {most} descriptors it doesn't end"
             took = time.monotonic() - since
             return unlike((run.returncode, out, err), (0, b"", b"crushcalc: 6 of 6 connections not accepted\n")) or (
-                None if took >= 0.6 else f"it took {took} seconds"
+                None if 0.6 <= took < 15 else f"it took {took} seconds"
             )
     return "it never listens"
+
+
+def some_accepts_that_fail(program, db):
+    """Where more than half of the accepts failed, and not all, the end says how many; where half of
+    them did it says nothing. The status is 0."""
+    for served, err in ((2, b"crushcalc: 4 of 6 connections not accepted\n"), (3, b"")):
+        with Server(program, db, "--connections", "6") as server:
+            for _each in range(served):
+                if why := goes_on(server):
+                    return why
+            # from here on no socket gets a descriptor: an accept that waits has its own, and the
+            # second handle of its socket hasn't; where none waits, the server ends by itself
+            resource.prlimit(server.run.pid, resource.RLIMIT_NOFILE, (3, 3))
+            with contextlib.suppress(ConnectionRefusedError):
+                server.connect().close()
+            if why := unlike(server.ended(), (0, b"", err)):
+                return f"after {served} that were served: {why}"
+    return None
 
 
 def cases():
     return (
         accepts_that_fail,
+        some_accepts_that_fail,
         two_messages,
         byte_by_byte,
         two_replies_at_once,
+        messages_of_one_segment,
         a_log_that_cannot_be_copied,
         examples,
         heads,
@@ -330,6 +426,8 @@ def cases():
         silent_clients_in_a_row,
         a_client_that_never_reads,
         a_client_that_stays,
+        a_client_that_goes_on_sending,
+        a_refused_body_that_still_comes,
         resets,
         half_closes,
     )

@@ -438,6 +438,36 @@ def pools():
     ]
 
 
+def versions_and_pools():
+    """256 versions and 256 pools of one tenant, on small maps."""
+    texts = [in_one(KINDS[seed % 4], 4, seed) for seed in range(256)]
+    imports = [import_of("a", f"m{number}", text) for number, text in enumerate(texts)]
+    made = [pool_of("a", it, groups=1 + it % 4, size=2, kind=("replicated", "erasure")[it % 2]) for it in range(1, 257)]
+    usages = [get("a", f"pools/{it}/usage") for it in range(1, 257)]
+    moved = [get("a", f"pools/{it}/moves/{it}/{257 - it}") for it in range(1, 257, 5)]
+    asked = [get("a"), *usages, *moved, *(get("a", f"maps/{it}") for it in range(1, 257, 51))]
+    down = list(states_of("a", "s", [(0, 0, True), (1, 30_000, True), (3, 65_536, False)]))
+    return [
+        [create("a"), imports[0], *made[:128], *imports[1:], *made[128:], *asked[:40]],
+        [*asked, imports[255], made[255], *down, *usages],
+        [*down, *asked, pool_of("a", 257, groups=1), import_of("a", "m256", texts[0]), drop("a"), get("a")],
+    ]
+
+
+def three_copies():
+    """Pools of as many groups as there may be with three copies and more, of few seeds."""
+    start = [create("a"), import_of("a", "m1", in_one("tree", 5, 1)), import_of("a", "m2", in_one("list", 5, 1))]
+    pools = [
+        pool_of("a", 1, groups=65_536, places=64),
+        pool_of("a", 2, groups=32_768, places=96, kind="erasure"),
+        pool_of("a", 3, groups=16_385, places=64, size=4),
+    ]
+    usages = [get("a", f"pools/{it}/usage") for it in (1, 2, 3)]
+    impacts = [get("a", f"pools/2/impact/{it}") for it in (0, 4)]
+    out = post("a", "devices", request="d", devices=[{"id": 2, "up": False}, {"id": 3, "reweight": 30_000}])
+    return [[*start, *pools, *usages, *impacts], [*usages, out, *usages, *impacts]]
+
+
 def receipts():
     """100,000 receipts; then changes are refused, and each earlier one has its reply."""
     start = [create("a"), import_of("a", "m1", in_one("list", 8)), pool_of("a", 1, groups=8)]
@@ -566,6 +596,8 @@ def all():
         pools,
         tenants,
         versions,
+        versions_and_pools,
+        three_copies,
         receipts,
         tenants_of_large_maps,
         the_longest_canonical_text,

@@ -8,11 +8,11 @@ import subprocess
 from model import maps, messages
 from gate.counted import Untried
 from model.definition import played
-from server.served import Server, asked, run_to_end
+from server.served import Server, asked, free_port, run_to_end
 from files.stored import SCHEMA_1, STORE_FAULT, files_at
 
 FULL = b'503 {"error":"store_failed"}'
-SIZE = "2m"
+SIZE, PAGE = "2m", 4_096
 
 
 def import_of(place):
@@ -107,6 +107,33 @@ def schema_1_at_full_disk(program, folder):
     return None if found == (0, summary + b"\n", b"") else f"with room again: {found}"
 
 
+def first_start_at_full_disk(program, folder):
+    """Where there is no room for the tables of a new file a start is refused, whatever part of them
+    there is room for; a start with room makes them, over what was left or anew."""
+    db, rest = folder / "new.db", folder / "rest"
+    for pages, words in (
+        (0, ("script",)),
+        (1, ("script",)),
+        (2, ("serve", "--port", str(free_port()))),
+        (16, ("script",)),
+        (48, ("serve", "--port", str(free_port()))),
+    ):
+        take_the_rest(rest)
+        os.truncate(rest, rest.stat().st_size - pages * PAGE)
+        # the second start is over what the first has left, which has no tables yet
+        for place in (1, 2):
+            found = run_to_end(program, *words, "--db", str(db), data=b"GET /t/a\n")
+            if found != (1, b"", STORE_FAULT):
+                return f"{words[0]}, start {place} with room for {pages} pages: {found}"
+        rest.unlink()
+        found = run_to_end(program, "script", "--db", str(db), data=b"PUT /t/a\n")
+        if found != (0, messages.made(b"a") + b"\n", b""):
+            return f"with room again, after room for {pages} pages: {found}"
+        for it in folder.glob("new.db*"):
+            it.unlink()
+    return None
+
+
 def mount(folder):
     """Mounts a small file system there."""
     if os.geteuid() != 0:
@@ -124,6 +151,9 @@ def checks(program, folder):
     mount(at)
     try:
         yield "a file of schema 1 on a full disk", schema_1_at_full_disk(program, at)
+        for it in at.iterdir():
+            it.unlink()
+        yield "a first start on a full disk", first_start_at_full_disk(program, at)
         for it in at.iterdir():
             it.unlink()
         yield "a full disk", at_full_disk(program, at)
