@@ -72,7 +72,7 @@ help:
 ## make form      formats the sources of each crate, and Python by black; make test refuses crates in
 ##                another form, and lines of Python or JavaScript of over 120 columns
 ## make bench     builds and measures; beside Ceph's own library where that is installed
-## make instructions   counts the instructions of some seventy works beside the recorded ones, and
+## make instructions   counts the instructions of some eighty works beside the recorded ones, and
 ##                fails where one grew by over 2 %
 ##
 ## make package   builds, and makes a Debian package and a tarball of the program, the page, the
