@@ -41,7 +41,7 @@ class Unfit(Exception):
 class Edit:
     def __init__(self, path):
         self.name, self.crate, self.text = path.stem, path.parent.parent.name, path.read_text(encoding="utf-8")
-        self.file, self.pairs, old = None, [], None
+        self.file, self.pairs, self.stray, old = None, [], None, None
         for line in self.text.split("\n"):
             if line.startswith("file: "):
                 self.file = line[len("file: ") :].strip()
@@ -49,6 +49,9 @@ class Edit:
                 old = line[len("old: ") :]
             elif line.startswith("new:"):
                 self.pairs.append((old, line[len("new:") :].removeprefix(" ")))
+            elif line:
+                # a text of two lines would be tried as its first
+                self.stray = line
 
     def __str__(self):
         return f"{self.crate}/{self.name}"
@@ -58,6 +61,8 @@ class Edit:
         all with no place."""
         if not self.file or not self.pairs:
             raise Unfit("it has no file, or no old and new text")
+        if self.stray:
+            raise Unfit(f"a line is neither file, old nor new: {self.stray.strip()}")
         for old, new in self.pairs:
             if not old or text.count(old) != 1:
                 raise Unfit(f"an old text stands {text.count(old) if old else 0} times in {self.file}")
