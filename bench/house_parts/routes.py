@@ -43,7 +43,7 @@ TRAITS = {
     "Read": "Client",
     "Write": "Client",
     "Watch": "FileWatch",
-    "Row": "UsageRow",
+    "ReportRow": "UsageRow",
 }
 # the reply is held, and written before the next read
 STARTS = ("connection.rt serve_all", "writing.rt write_whole")
@@ -56,9 +56,9 @@ AGAIN = {
 }
 # what says why a request is refused
 NEVER = "out_of_grammar at_line fault_at refused store_fault fault_of refusal put_rejection"
-ALL = {"serve_all": "finish", "read_body": "read_rest", "Held::put": "flush write_whole"}
+ALL = {"serve_all": "finish", "read_body": "read_rest", "HeldBytes::put": "flush write_whole"}
 NO_BODY = {"headers.rt size_of": "size_by_length"}
-KEPT = {"Kept::put": "forget", "evict": "size_of"}
+KEPT = {"KeptTenants::put": "forget", "evict": "size_of"}
 # each try succeeds, on the map that is said above
 PLACING = {
     "Perms::build": "Slot::new",
@@ -69,7 +69,7 @@ PLACING = {
     "Firstn::decide": "is_due can_place",
     "Firstn::leaf_below": "is_due can_have_leaf",
     "is_in": "hash2",
-    "Placing::set_up": "Excepted::new items",
+    "Placing::set_up": "ExceptedSlots::new items",
 }
 GROUP = {
     "decide_request": "decide_loaded",
@@ -104,8 +104,8 @@ IMPORT = {
     "count_versions": "read_inventory newest",
 }
 VARIANTS = {"Result": "Ok", "Kind": "List", "Draw": "List"}
-ASKS = {"Action": "Query", "Effect": "Keep", "Cached": "Placed", "Step": "Take Choose Emit"}
-CHANGES = {"Action": "Command", "Effect": "Change", "Made": "Version"}
+ASKS = {"Action": "Query", "Effect": "Keep", "CachedAnswer": "Placed", "Step": "Take Choose Emit"}
+CHANGES = {"Action": "Command", "Effect": "Change", "Product": "Version"}
 
 
 def route(variants, *not_by):
@@ -115,9 +115,12 @@ def route(variants, *not_by):
 
 
 ROUTES = {
-    "group": route(ASKS | {"Route": "Group", "Query": "Group", "Asked": "Group"}, NO_BODY, KEPT, PLACING, GROUP),
+    "group": route(ASKS | {"Route": "Group", "Query": "Group", "Question": "Group"}, NO_BODY, KEPT, PLACING, GROUP),
     "locate": route(
-        ASKS | {"Route": "Object", "Query": "Object", "Asked": "Object", "Cached": "Located"}, KEPT, PLACING, GROUP
+        ASKS | {"Route": "Object", "Query": "Object", "Question": "Object", "CachedAnswer": "Located"},
+        KEPT,
+        PLACING,
+        GROUP,
     ),
     "usage": route(ASKS | {"Route": "Usage", "Query": "Usage"}, NO_BODY, PLACING, LOADED, USAGE),
     "import": route(CHANGES | {"Route": "ImportMap", "Order": "ImportMap"}, KEPT, LOADED, IMPORT),

@@ -8,7 +8,7 @@ use crate::{ScriptEnd, script_run};
 use std::alloc::{AllocError, Global};
 use std::io::{Read, Write};
 use std::num::NonZeroUsize;
-use tenant_cache::{Bytes, CachedStore};
+use tenant_cache::{ByteBound, CachedStore};
 use tenant_service::laws::memory_stores_are_honest;
 use tenant_service::{MemoryStore, Service};
 
@@ -30,7 +30,7 @@ pub fn script_in_memory<R: Read, W: Write>(
         result (R.remaining reader.old) (R.remaining reader.new) (W.contents writer.old) (W.contents writer.new) }
 {
     memory_stores_are_honest();
-    let store = CachedStore::<_, Bytes<{ u64::MAX }>>::over_memory(
+    let store = CachedStore::<_, ByteBound<{ u64::MAX }>>::over_memory(
         alloc,
         MemoryStore::new(alloc),
         placements,

@@ -2,7 +2,7 @@
 
 ghost use Rattle.std.specs.Prelude.{◌≡◌, ◌<◌, IfOk, IfSome, length, slice_index, slice_index_or};
 ghost use Rattle.crush_bucket.specs.Private.Ahead.{HasPick};
-ghost use Rattle.crush_bucket.specs.declared.scratch.Step.{Step};
+ghost use Rattle.crush_bucket.specs.declared.scratch.AheadPick.{AheadPick};
 
 use crate::AnyBucket;
 use crate::number::BucketNo;
@@ -33,13 +33,13 @@ const STEP_LIMIT: usize = 64;
 /// A pick that was made for eight inputs at once: for each of them a bucket, and the item that it
 /// picks.
 #[derive(Clone, Copy)]
-pub(crate) struct Step {
+pub(crate) struct AheadPick {
     pub(crate) buckets: [BucketNo; LANES],
     pub(crate) r: u32,
     pub(crate) items: [ItemId; LANES],
 }
 
-impl Step {
+impl AheadPick {
     /// Returns what the bucket of `lane` picked, where it is `bucket` and the attempt is `r`.
     #[inline]
     fn item(&self, lane: usize, bucket: BucketNo, r: u32) -> Option<ItemId>
@@ -62,7 +62,7 @@ pub struct Scratch<'a> {
     perms: Perms,
     /// The inputs for which picks are made ahead, and the picks.
     xs: [u32; LANES],
-    steps: Vec<Step>,
+    steps: Vec<AheadPick>,
     /// The lane of the input that was asked last, and the step behind the one that was found for
     /// it.
     lane: usize,
@@ -182,7 +182,7 @@ impl<'a> Scratch<'a> {
             return None;
         }
         let items = self.tables.pick_eight(&buckets, &self.xs, r)?;
-        match self.steps.push(Step { buckets, r, items }) {
+        match self.steps.push(AheadPick { buckets, r, items }) {
             Ok(()) => Some(items),
             Err(_) => None,
         }
@@ -218,7 +218,7 @@ impl<'a> Scratch<'a> {
 /// Finds the step in which the bucket of `lane` is `bucket`, and the attempt is `r`. Returns its
 /// place and the item. What is asked for next mostly stands at `next`.
 fn find(
-    steps: &[Step],
+    steps: &[AheadPick],
     next: usize,
     lane: usize,
     bucket: BucketNo,
@@ -226,7 +226,7 @@ fn find(
 ) -> Option<(usize, ItemId)>
     requires { lane < 8 }
     ensures within { IfSome result (λ found. found.0 < length steps.now) }
-    ensures has { IfSome result (λ found. (d : Step) → HasPick lane bucket r found.1 (slice_index_or steps.now found.0 d)) }
+    ensures has { IfSome result (λ found. (d : AheadPick) → HasPick lane bucket r found.1 (slice_index_or steps.now found.0 d)) }
 {
     if let Some(step) = steps.get(next) {
         if let Some(item) = step.item(lane, bucket, r) {

@@ -11,7 +11,7 @@ ghost use Rattle.crush_cache.specs.declared.limits.TheConstants.{CONTENT_LIMIT, 
 
 use crate::entries::{Entries, Key, keep, recall};
 use crate::limits::{CONTENT_LIMIT, LONG_LIMIT};
-use crate::seen::Seen;
+use crate::seen::SeenGroups;
 use crush_bucket::Scratch;
 use crush_choose::Out;
 use crush_pool::{Content, Placement, Placer, PoolFault};
@@ -36,7 +36,7 @@ pub struct PlacementCache {
     first: u64,
     contents: Vec<Content>,
     entries: Entries,
-    seen: Seen,
+    seen: SeenGroups,
 }
 
 impl Model for PlacementCache {
@@ -96,7 +96,7 @@ impl PlacementCache {
             first: 0,
             contents: Vec::new(alloc),
             entries: LruCache::new(alloc, capacity)?,
-            seen: Seen::new(alloc, capacity)?,
+            seen: SeenGroups::new(alloc, capacity)?,
         })
     }
 

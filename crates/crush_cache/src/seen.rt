@@ -17,18 +17,18 @@ const MULTIPLIER: u64 = 0x9e37_79b9_7f4a_7c15;
 /// same: one that wasn't asked for may count as one that was. No answer depends on it, so contracts
 /// don't see it.
 #[derive(Drop)]
-pub(crate) struct Seen {
+pub(crate) struct SeenGroups {
     words: Vec<u64>,
     /// How many marks are set.
     set: usize,
 }
 
-impl Seen {
+impl SeenGroups {
     /// Makes the marks of a cache for `capacity` placements: nothing was asked for yet.
     /// `Err(AllocError)`: an allocation failed; nothing is changed.
     pub(crate) fn new(alloc: Global, capacity: NonZeroUsize) -> Result<Self, AllocError> {
         let count = capacity.get() / PLACEMENTS_TO_A_WORD + 1;
-        Ok(Seen {
+        Ok(SeenGroups {
             words: vec![in alloc; 0; count]?,
             set: 0,
         })

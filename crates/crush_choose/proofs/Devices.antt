@@ -5,8 +5,8 @@ use Rattle.std.specs.Bool.{then_some}
 use Rattle.std.proofs.lemmas.Bool.Decides.{nat_tests}
 use Rattle.crush_map.specs.crush_types.specs.declared.ItemId.{ItemId}
 use Rattle.crush_bucket.specs.Tables.{TablesView, pick_at, type_at, size_at, bucket_numbered}
-use Rattle.crush_choose.specs.declared.walk.Reached.{Reached}
-use Rattle.crush_choose.specs.declared.walk.Reached.TheVariants.{Empty, Wrong, Found}
+use Rattle.crush_choose.specs.declared.walk.WalkEnd.{WalkEnd}
+use Rattle.crush_choose.specs.declared.walk.WalkEnd.TheVariants.{Empty, Wrong, Found}
 use Rattle.crush_choose.specs.declared.firstn.FirstnCall.{FirstnCall}
 use Rattle.crush_choose.specs.declared.mark.Mark.{Mark}
 use Rattle.crush_choose.specs.Reach.{at_item, reach_below, reach}
@@ -21,10 +21,10 @@ use Rattle.crush_choose.proofs.Least.{least_same}
 use Rattle.crush_choose.proofs.Placing.{slots_append}
 
 -- if the walk found an item, it is a device
-abbrev FindsDevice : TablesView → Reached → Type 0
+abbrev FindsDevice : TablesView → WalkEnd → Type 0
 FindsDevice t o = (item : ItemId) (r : ℕ) → o ≡ Found item r → bucket_numbered t item ≡ None
 
-either_finds : (t : TablesView) (b : Bool) (x y : Reached) → FindsDevice t x → FindsDevice t y → FindsDevice t (if b then x else y)
+either_finds : (t : TablesView) (b : Bool) (x y : WalkEnd) → FindsDevice t x → FindsDevice t y → FindsDevice t (if b then x else y)
 either_finds t true x y hx hy = hx
 either_finds t false x y hx hy = hy
 
@@ -34,7 +34,7 @@ empty_finds t item r e = cc
 device_finds : (t : TablesView) (item : ItemId) (r : ℕ) → bucket_numbered t item ≡ None → FindsDevice t (Found item r)
 device_finds t item r device other r' e = let same : item ≡ other = cc in rw (← same) device
 
-item_finds : (t : TablesView) (down : ℕ → Reached) (item : ItemId) (r : ℕ) (o : Option ℕ) → HasNoDeviceBucket t → bucket_numbered t item ≡ o
+item_finds : (t : TablesView) (down : ℕ → WalkEnd) (item : ItemId) (r : ℕ) (o : Option ℕ) → HasNoDeviceBucket t → bucket_numbered t item ≡ o
     → ((k : ℕ) → FindsDevice t (down k)) → FindsDevice t (at_item t 0 down item r o)
 item_finds t down item r None typed is below = device_finds t item r is
 item_finds t down item r (Some k) typed is below =
@@ -55,7 +55,7 @@ reach_finds t x rr b typed = below_finds t x rr (suc b) b typed
 abbrev leafless_call : FirstnCall → FirstnCall
 leafless_call c = record c { leaf_tries = 0 }
 
-firstn_outcome-leafless : (t : TablesView) (w : List ℕ) (c : FirstnCall) (items leaves : List Slot) (f : ℕ) (o : Reached) → FindsDevice t o
+firstn_outcome-leafless : (t : TablesView) (w : List ℕ) (c : FirstnCall) (items leaves : List Slot) (f : ℕ) (o : WalkEnd) → FindsDevice t o
     → firstn_outcome t w c items leaves f o ≡ firstn_outcome t w (leafless_call c) items leaves f o
 firstn_outcome-leafless t w c items leaves f Empty finds = refl
 firstn_outcome-leafless t w c items leaves f Wrong finds = refl
@@ -107,7 +107,7 @@ either_owns : (b : Bool) (mark : Option Mark) → OwnsLeaf mark → OwnsLeaf (if
 either_owns true mark own = refl
 either_owns false mark own = own
 
-outcome_owns : (t : TablesView) (w : List ℕ) (c : FirstnCall) (items leaves : List Slot) (f : ℕ) (o : Reached) → OwnsLeaf (firstn_outcome t w (leafless_call c) items leaves f o)
+outcome_owns : (t : TablesView) (w : List ℕ) (c : FirstnCall) (items leaves : List Slot) (f : ℕ) (o : WalkEnd) → OwnsLeaf (firstn_outcome t w (leafless_call c) items leaves f o)
 outcome_owns t w c items leaves f Empty = refl
 outcome_owns t w c items leaves f Wrong = refl
 outcome_owns t w c items leaves f (Found item r) =

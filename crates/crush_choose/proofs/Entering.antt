@@ -4,8 +4,8 @@ use Rattle.std.proofs.lemmas.Bool.{cases_lt}
 use Rattle.std.proofs.lemmas.Bool.Decides.{nat_tests}
 use Rattle.std.proofs.lemmas.List.{length-map}
 use Rattle.crush_bucket.specs.Tables.{TablesView, bucket_numbered}
-use Rattle.crush_choose.specs.declared.walk.Reached.{Reached}
-use Rattle.crush_choose.specs.declared.walk.Reached.TheVariants.{Empty, Wrong, Found}
+use Rattle.crush_choose.specs.declared.walk.WalkEnd.{WalkEnd}
+use Rattle.crush_choose.specs.declared.walk.WalkEnd.TheVariants.{Empty, Wrong, Found}
 use Rattle.crush_choose.specs.declared.firstn.FirstnCall.{FirstnCall}
 use Rattle.crush_choose.specs.declared.mark.Spot.{Spot}
 use Rattle.crush_choose.specs.declared.mark.Mark.{Mark}
@@ -22,7 +22,7 @@ use Rattle.crush_choose.proofs.Entries.{items_are, leaves_are, rises_of, before_
 
 -- ---- a try places with its own number
 
-outcome_is : (t : TablesView) (w : List ℕ) (c : FirstnCall) (items leaves : List Slot) (f : ℕ) (end : Reached) → IsNumbered f (firstn_outcome t w c items leaves f end)
+outcome_is : (t : TablesView) (w : List ℕ) (c : FirstnCall) (items leaves : List Slot) (f : ℕ) (end : WalkEnd) → IsNumbered f (firstn_outcome t w c items leaves f end)
 outcome_is t w c items leaves f Empty s e = cc
 outcome_is t w c items leaves f Wrong s e = cc
 outcome_is t w c items leaves f (Found item r) s e =

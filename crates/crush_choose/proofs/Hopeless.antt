@@ -4,8 +4,8 @@ use Rattle.std.specs.Bool.{then_some}
 use Rattle.std.proofs.lemmas.Bool.Decides.{nat_tests}
 use Rattle.crush_map.specs.crush_types.specs.declared.ItemId.{ItemId}
 use Rattle.crush_bucket.specs.Tables.{TablesView, bucket_numbered}
-use Rattle.crush_choose.specs.declared.walk.Reached.{Reached}
-use Rattle.crush_choose.specs.declared.walk.Reached.TheVariants.{Empty, Wrong, Found}
+use Rattle.crush_choose.specs.declared.walk.WalkEnd.{WalkEnd}
+use Rattle.crush_choose.specs.declared.walk.WalkEnd.TheVariants.{Empty, Wrong, Found}
 use Rattle.crush_choose.specs.declared.firstn.FirstnCall.{FirstnCall}
 use Rattle.crush_choose.specs.declared.mark.Spot.{Spot}
 use Rattle.crush_choose.specs.declared.mark.Mark.{Mark}
@@ -53,7 +53,7 @@ no_new_leaf : (w : List ℕ) (c : FirstnCall) (leaves : List Slot) (item : ItemI
 no_new_leaf w c leaves item None none = none
 no_new_leaf w c leaves item (Some k) none = both (is_device_in w c.x item) (not (has leaves item)) none
 
-leaf_none : (w : List ℕ) (c : FirstnCall) (leaves : List Slot) (end : Reached)
+leaf_none : (w : List ℕ) (c : FirstnCall) (leaves : List Slot) (end : WalkEnd)
     → ((item : ItemId) (r : ℕ) → end ≡ Found item r → (is_device_in w c.x item && not (has leaves item)) ≡ false) → new_leaf w c leaves end ≡ None
 leaf_none w c leaves Empty none = refl
 leaf_none w c leaves Wrong none = refl
@@ -86,7 +86,7 @@ no_leaf_of picks t w c leaves count item r (Some k) none =
 
 -- ---- a try
 
-outcome_none : PicksItems → (t : TablesView) (w : List ℕ) (c : FirstnCall) (items leaves : List Slot) (f : ℕ) (end : Reached)
+outcome_none : PicksItems → (t : TablesView) (w : List ℕ) (c : FirstnCall) (items leaves : List Slot) (f : ℕ) (end : WalkEnd)
     → ((item : ItemId) (r : ℕ) → end ≡ Found item r → can_be_placed t w c.x items (leafy t w c.x (nat_lt 0 c.leaf_tries) leaves) item ≡ false)
     → placed_in (firstn_outcome t w c items leaves f end) ≡ None
 outcome_none picks t w c items leaves f Empty none = refl

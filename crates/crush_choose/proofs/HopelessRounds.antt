@@ -8,8 +8,8 @@ use Rattle.std.proofs.lemmas.List.Folds.{Any-from_list_any}
 use Rattle.std.specs.Ordering.{int_eq}
 use Rattle.crush_map.specs.crush_types.specs.declared.ItemId.{ItemId}
 use Rattle.crush_bucket.specs.Tables.{TablesView, bucket_numbered}
-use Rattle.crush_choose.specs.declared.walk.Reached.{Reached}
-use Rattle.crush_choose.specs.declared.walk.Reached.TheVariants.{Empty, Wrong, Found}
+use Rattle.crush_choose.specs.declared.walk.WalkEnd.{WalkEnd}
+use Rattle.crush_choose.specs.declared.walk.WalkEnd.TheVariants.{Empty, Wrong, Found}
 use Rattle.crush_choose.specs.declared.indep.IndepCall.{IndepCall}
 use Rattle.crush_choose.specs.declared.mark.Spot.{Spot}
 use Rattle.crush_choose.specs.declared.mark.Mark.{Mark}
@@ -34,7 +34,7 @@ no_leaf_in : (w : List ℕ) (x : ℕ) (item : ItemId) (o : Option ℕ) → (has_
 no_leaf_in w x item None none = both_fail _ (has [] item) none refl
 no_leaf_in w x item (Some k) none = cc
 
-leaf_none : (w : List ℕ) (x : ℕ) (end : Reached) → ((item : ItemId) (r : ℕ) → end ≡ Found item r → is_device_in w x item ≡ false) → leaf_in w x end ≡ None
+leaf_none : (w : List ℕ) (x : ℕ) (end : WalkEnd) → ((item : ItemId) (r : ℕ) → end ≡ Found item r → is_device_in w x item ≡ false) → leaf_in w x end ≡ None
 leaf_none w x Empty none = refl
 leaf_none w x Wrong none = refl
 leaf_none w x (Found item r) none = none_of _ item (none item r refl)
@@ -86,7 +86,7 @@ taken_later now f g pos item before le e =
 
 -- ---- a try
 
-outcome_none : PicksItems → (t : TablesView) (w : List ℕ) (c : IndepCall) (now : Marks) (f g pos : ℕ) (end : Reached) → IsBefore f now → f ≤ g
+outcome_none : PicksItems → (t : TablesView) (w : List ℕ) (c : IndepCall) (now : Marks) (f g pos : ℕ) (end : WalkEnd) → IsBefore f now → f ≤ g
     → ((item : ItemId) (r : ℕ) → end ≡ Found item r → can_be_placed t w c.x (map item_at now) (leafy t w c.x (nat_lt 0 c.leaf_tries) []) item ≡ false)
     → placed_in (indep_outcome t w c now pos g end) ≡ None
 outcome_none picks t w c now f g pos Empty before le none = refl

@@ -2,8 +2,8 @@
 use Rattle.std.proofs.Common.{◌≡◌, ℕ, List, length, Bool, true, false, if◌then◌else◌, Option, Some, None, option_map, refl, ap, ◌∙◌}
 use Rattle.crush_map.specs.crush_types.specs.declared.ItemId.{ItemId}
 use Rattle.crush_bucket.specs.Tables.{TablesView, bucket_numbered}
-use Rattle.crush_choose.specs.declared.walk.Reached.{Reached}
-use Rattle.crush_choose.specs.declared.walk.Reached.TheVariants.{Empty, Wrong, Found}
+use Rattle.crush_choose.specs.declared.walk.WalkEnd.{WalkEnd}
+use Rattle.crush_choose.specs.declared.walk.WalkEnd.TheVariants.{Empty, Wrong, Found}
 use Rattle.crush_choose.specs.declared.mark.Spot.{Spot}
 use Rattle.crush_choose.specs.declared.mark.Mark.{Mark}
 use Rattle.crush_choose.specs.declared.mark.Mark.TheVariants.{Placed}
@@ -21,7 +21,7 @@ taken_alike a b f pos item alike =
     some_below_same _ _ (length a) (λ q. ap (is_of item) (alike.same q))
     ∙ ap (some_below (λ (q : ℕ). is_of item (earlier f pos q (at b q)))) alike.long
 
-weighed_alike : (t : TablesView) (w : List ℕ) (c : IndepCall) (a b : Marks) (f pos : ℕ) (end : Reached) → PlaceAlike f pos a b
+weighed_alike : (t : TablesView) (w : List ℕ) (c : IndepCall) (a b : Marks) (f pos : ℕ) (end : WalkEnd) → PlaceAlike f pos a b
     → indep_outcome t w c a pos f end ≡ indep_outcome t w c b pos f end
 weighed_alike t w c a b f pos Empty alike = refl
 weighed_alike t w c a b f pos Wrong alike = refl
@@ -41,7 +41,7 @@ pub untaken_is : (f : ℕ) (taken : Bool) (mark : Option Mark) → IsNumbered f 
 untaken_is f true mark numbered s e = cc
 untaken_is f false mark numbered s e = numbered s e
 
-outcome_is : (t : TablesView) (w : List ℕ) (c : IndepCall) (marks : Marks) (f pos : ℕ) (end : Reached) → IsNumbered f (indep_outcome t w c marks pos f end)
+outcome_is : (t : TablesView) (w : List ℕ) (c : IndepCall) (marks : Marks) (f pos : ℕ) (end : WalkEnd) → IsNumbered f (indep_outcome t w c marks pos f end)
 outcome_is t w c marks f pos Empty s e = cc
 outcome_is t w c marks f pos Wrong s e = cc
 outcome_is t w c marks f pos (Found item r) s e =

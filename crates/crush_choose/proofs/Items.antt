@@ -9,8 +9,8 @@ use Rattle.crush_map.specs.crush_types.specs.declared.ItemId.{ItemId}
 use Rattle.crush_map.specs.declared.draft.Step.{Step}
 use Rattle.crush_map.specs.declared.draft.Step.TheVariants.{Take, SetChooseTries, SetLeafTries, SetVaryR, SetStable, Choose, Emit}
 use Rattle.crush_bucket.specs.Tables.{TablesView, pick_at, type_at, size_at, bucket_numbered}
-use Rattle.crush_choose.specs.declared.walk.Reached.{Reached}
-use Rattle.crush_choose.specs.declared.walk.Reached.TheVariants.{Empty, Wrong, Found}
+use Rattle.crush_choose.specs.declared.walk.WalkEnd.{WalkEnd}
+use Rattle.crush_choose.specs.declared.walk.WalkEnd.TheVariants.{Empty, Wrong, Found}
 use Rattle.crush_choose.specs.declared.firstn.FirstnCall.{FirstnCall}
 use Rattle.crush_choose.specs.declared.indep.IndepCall.{IndepCall}
 use Rattle.crush_choose.specs.declared.mark.Mark.{Mark}
@@ -48,7 +48,7 @@ least_is Q tries (suc n) each = or_else_is Q (least tries n) (tries n) (least_is
 -- ---- marks
 
 -- the item has the property, if the walk found one
-abbrev IsFound : (ItemId → Type 0) → Reached → Type 0
+abbrev IsFound : (ItemId → Type 0) → WalkEnd → Type 0
 IsFound P Empty = Unit {0}
 IsFound P Wrong = Unit {0}
 IsFound P (Found item r) = P item
@@ -134,11 +134,11 @@ rounds_are P tries n zero each = All-replicate (λ mark. IfSome mark (MarkIs P))
 rounds_are P tries n (suc rounds) each = round_are P tries rounds n (after_rounds tries n rounds) each (rounds_are P tries n rounds each)
 
 -- where a bucket is empty, no item is found
-sized_by : (P : ItemId → Type 0) (n : ℕ) (end : Reached) (empty : Bool) → (n == 0) ≡ empty → (0 < n → IsFound P end) → IsFound P (if empty then Empty else end)
+sized_by : (P : ItemId → Type 0) (n : ℕ) (end : WalkEnd) (empty : Bool) → (n == 0) ≡ empty → (0 < n → IsFound P end) → IsFound P (if empty then Empty else end)
 sized_by P n end true e is = tt
 sized_by P n end false e is = is (grind (arith, nat_tests, e))
 
-sized_is : (P : ItemId → Type 0) (n : ℕ) (end : Reached) → (0 < n → IsFound P end) → IsFound P (if n == 0 then Empty else end)
+sized_is : (P : ItemId → Type 0) (n : ℕ) (end : WalkEnd) → (0 < n → IsFound P end) → IsFound P (if n == 0 then Empty else end)
 sized_is P n end is = sized_by P n end (n == 0) refl is
 
 -- ---- numbers
@@ -186,7 +186,7 @@ TakeIs P Emit = Unit {0}
 module _ (P : ItemId → Type 0) (t : TablesView) (picks : ArePicks P t) where
   -- ---- walks
 
-  at_item_is : (wanted : ℕ) (down : ℕ → Reached) (item : ItemId) (r : ℕ) (o : Option ℕ) → P item → ((k : ℕ) → IsFound P (down k)) → IsFound P (at_item t wanted down item r o)
+  at_item_is : (wanted : ℕ) (down : ℕ → WalkEnd) (item : ItemId) (r : ℕ) (o : Option ℕ) → P item → ((k : ℕ) → IsFound P (down k)) → IsFound P (at_item t wanted down item r o)
   at_item_is wanted down item r None is below = either_is (IsFound P) (0 == wanted) (Found item r) Wrong is tt
   at_item_is wanted down item r (Some k) is below = either_is (IsFound P) (type_at t k == wanted) (Found item r) (down k) is (below k)
 
@@ -204,7 +204,7 @@ module _ (P : ItemId → Type 0) (t : TablesView) (picks : ArePicks P t) where
 
   -- ---- firstn
 
-  new_leaf_is : (w : List ℕ) (c : FirstnCall) (leaves : List Slot) (end : Reached) → IsFound P end → IfSome (new_leaf w c leaves end) P
+  new_leaf_is : (w : List ℕ) (c : FirstnCall) (leaves : List Slot) (end : WalkEnd) → IsFound P end → IfSome (new_leaf w c leaves end) P
   new_leaf_is w c leaves Empty is = tt
   new_leaf_is w c leaves Wrong is = tt
   new_leaf_is w c leaves (Found item r) is = then_some_is P (is_device_in w c.x item && not (has leaves item)) item is
@@ -219,7 +219,7 @@ module _ (P : ItemId → Type 0) (t : TablesView) (picks : ArePicks P t) where
   leaf_of_is w c leaves count item r (Some bucket) is =
       either_is (λ (leaf : Option ItemId). IfSome leaf P) (c.leaf_tries == 0) (Some item) _ is (leaf_below_is w c leaves bucket (leaf_start c count r))
 
-  firstn_outcome_is : (w : List ℕ) (c : FirstnCall) (items leaves : List Slot) (f : ℕ) (end : Reached) → IsFound P end → IfSome (firstn_outcome t w c items leaves f end) (MarkIs P)
+  firstn_outcome_is : (w : List ℕ) (c : FirstnCall) (items leaves : List Slot) (f : ℕ) (end : WalkEnd) → IsFound P end → IfSome (firstn_outcome t w c items leaves f end) (MarkIs P)
   firstn_outcome_is w c items leaves f Empty is = tt
   firstn_outcome_is w c items leaves f Wrong is = tt
   firstn_outcome_is w c items leaves f (Found item r) is =
@@ -240,7 +240,7 @@ module _ (P : ItemId → Type 0) (t : TablesView) (picks : ArePicks P t) where
 
   -- ---- indep
 
-  leaf_in_is : (w : List ℕ) (x : ℕ) (end : Reached) → IsFound P end → IfSome (leaf_in w x end) P
+  leaf_in_is : (w : List ℕ) (x : ℕ) (end : WalkEnd) → IsFound P end → IfSome (leaf_in w x end) P
   leaf_in_is w x Empty is = tt
   leaf_in_is w x Wrong is = tt
   leaf_in_is w x (Found item r) is = then_some_is P (is_device_in w x item) item is
@@ -256,7 +256,7 @@ module _ (P : ItemId → Type 0) (t : TablesView) (picks : ArePicks P t) where
   indep_leaf_of_is w c place item r (Some bucket) is =
       either_is (λ (leaf : Option ItemId). IfSome leaf P) (c.leaf_tries == 0) (Some item) _ is (indep_leaf_is w c bucket (place + r))
 
-  indep_outcome_is : (w : List ℕ) (c : IndepCall) (marks : Marks) (place f : ℕ) (end : Reached) → IsFound P end → IfSome (indep_outcome t w c marks place f end) (MarkIs P)
+  indep_outcome_is : (w : List ℕ) (c : IndepCall) (marks : Marks) (place f : ℕ) (end : WalkEnd) → IsFound P end → IfSome (indep_outcome t w c marks place f end) (MarkIs P)
   indep_outcome_is w c marks place f Empty is = tt
   indep_outcome_is w c marks place f Wrong is = tt
   indep_outcome_is w c marks place f (Found item r) is =

@@ -5,8 +5,8 @@ use Rattle.std.proofs.lemmas.Bool.Decides.{nat_tests}
 use Rattle.crush_hash.specs.Hash.{hash2}
 use Rattle.crush_map.specs.crush_types.specs.declared.ItemId.{ItemId}
 use Rattle.crush_bucket.specs.Tables.{TablesView, bucket_numbered}
-use Rattle.crush_choose.specs.declared.walk.Reached.{Reached}
-use Rattle.crush_choose.specs.declared.walk.Reached.TheVariants.{Empty, Wrong, Found}
+use Rattle.crush_choose.specs.declared.walk.WalkEnd.{WalkEnd}
+use Rattle.crush_choose.specs.declared.walk.WalkEnd.TheVariants.{Empty, Wrong, Found}
 use Rattle.crush_choose.specs.declared.firstn.FirstnCall.{FirstnCall}
 use Rattle.crush_choose.specs.declared.indep.IndepCall.{IndepCall}
 use Rattle.crush_choose.specs.declared.mark.Mark.{Mark}
@@ -63,7 +63,7 @@ both_fall true true c falls e = e
 both_fall true false c falls e = refl
 both_fall false b c falls e = rw (falls refl) refl
 
-new_leaf_keeps : (w v : List ℕ) (c : FirstnCall) (leaves : List Slot) (end : Reached) → IsLower w v
+new_leaf_keeps : (w v : List ℕ) (c : FirstnCall) (leaves : List Slot) (end : WalkEnd) → IsLower w v
     → Keeps (Stays w v c.x) (new_leaf w c leaves end) (new_leaf v c leaves end)
 new_leaf_keeps w v c leaves Empty lower = keeps_itself (Stays w v c.x) None
 new_leaf_keeps w v c leaves Wrong lower = keeps_itself (Stays w v c.x) None
@@ -91,7 +91,7 @@ leaf_of_keeps t w v c true leaves count item r (Some bucket) lower out =
     keeps_branch (Stays w v c.x) (c.leaf_tries == 0) (Some item) _ _ (leaf_below_keeps t w v c leaves bucket (leaf_start c count r) lower)
 leaf_of_keeps t w v c false leaves count item r (Some bucket) lower out = rw (out refl) (keeps_itself (λ found. Stays w v c.x item) (Some item))
 
-firstn_keeps : (t : TablesView) (w v : List ℕ) (c : FirstnCall) (leaf : Bool) (items leaves : List Slot) (f : ℕ) (end : Reached) → IsLower w v → PutsOut leaf c.leaf_tries
+firstn_keeps : (t : TablesView) (w v : List ℕ) (c : FirstnCall) (leaf : Bool) (items leaves : List Slot) (f : ℕ) (end : WalkEnd) → IsLower w v → PutsOut leaf c.leaf_tries
     → Keeps (MarkStays w v c.x leaf) (firstn_outcome t w c items leaves f end) (firstn_outcome t v c items leaves f end)
 firstn_keeps t w v c leaf items leaves f Empty lower out = keeps_itself (MarkStays w v c.x leaf) None
 firstn_keeps t w v c leaf items leaves f Wrong lower out = keeps_itself (MarkStays w v c.x leaf) (Some Skipped)
@@ -144,7 +144,7 @@ firstn_stays t w v c leaf lower out stay =
 
 -- ---- indep
 
-leaf_in_keeps : (w v : List ℕ) (x : ℕ) (end : Reached) → IsLower w v → Keeps (Stays w v x) (leaf_in w x end) (leaf_in v x end)
+leaf_in_keeps : (w v : List ℕ) (x : ℕ) (end : WalkEnd) → IsLower w v → Keeps (Stays w v x) (leaf_in w x end) (leaf_in v x end)
 leaf_in_keeps w v x Empty lower = keeps_itself (Stays w v x) None
 leaf_in_keeps w v x Wrong lower = keeps_itself (Stays w v x) None
 leaf_in_keeps w v x (Found item r) lower = device_keeps (Stays w v x) w v x item lower (λ holds. holds)
@@ -164,7 +164,7 @@ indep_leaf_of_keeps t w v c true place item r (Some bucket) lower out =
     keeps_branch (Stays w v c.x) (c.leaf_tries == 0) (Some item) _ _ (indep_leaf_keeps t w v c bucket (place + r) lower)
 indep_leaf_of_keeps t w v c false place item r (Some bucket) lower out = rw (out refl) (keeps_itself (λ found. Stays w v c.x item) (Some item))
 
-indep_keeps : (t : TablesView) (w v : List ℕ) (c : IndepCall) (leaf : Bool) (marks : Marks) (place f : ℕ) (end : Reached) → IsLower w v → PutsOut leaf c.leaf_tries
+indep_keeps : (t : TablesView) (w v : List ℕ) (c : IndepCall) (leaf : Bool) (marks : Marks) (place f : ℕ) (end : WalkEnd) → IsLower w v → PutsOut leaf c.leaf_tries
     → Keeps (MarkStays w v c.x leaf) (indep_outcome t w c marks place f end) (indep_outcome t v c marks place f end)
 indep_keeps t w v c leaf marks place f Empty lower out = keeps_itself (MarkStays w v c.x leaf) None
 indep_keeps t w v c leaf marks place f Wrong lower out = keeps_itself (MarkStays w v c.x leaf) (Some Skipped)

@@ -3,7 +3,7 @@ use Rattle.std.proofs.Common.{◌≡◌, ℕ, zero, suc, ◌+◌, ◌*◌, ◌<�
 use Rattle.std.proofs.lemmas.Bool.Decides.{nat_tests}
 use Rattle.crush_map.specs.crush_types.specs.declared.ItemId.{ItemId}
 use Rattle.crush_bucket.specs.Tables.{TablesView, pick_at, type_at, size_at, bucket_numbered, IsBelow}
-use Rattle.crush_choose.specs.declared.walk.Reached.TheVariants.{Wrong, Found}
+use Rattle.crush_choose.specs.declared.walk.WalkEnd.TheVariants.{Wrong, Found}
 use Rattle.crush_choose.specs.Reach.{at_item, reach_below, reach}
 
 -- a walk from one bucket ends where the walk from a later one ends, whose number is below n

@@ -12,8 +12,8 @@ use Rattle.crush_bucket.specs.Bucket.{BucketView, WeightedItem, no_item, item_at
 use Rattle.crush_bucket.specs.Pick.{pick}
 use Rattle.crush_bucket.specs.Pickable.{pickable}
 use Rattle.crush_bucket.specs.Tables.{TablesView, bucket_at, type_at, size_at, pick_at, bucket_numbered, HasItemsBelow}
-use Rattle.crush_choose.specs.declared.walk.Reached.{Reached}
-use Rattle.crush_choose.specs.declared.walk.Reached.TheVariants.{Empty, Wrong, Found}
+use Rattle.crush_choose.specs.declared.walk.WalkEnd.{WalkEnd}
+use Rattle.crush_choose.specs.declared.walk.WalkEnd.TheVariants.{Empty, Wrong, Found}
 use Rattle.crush_choose.specs.Reach.{at_item, reach_below, reach}
 use Rattle.crush_choose.specs.Marks.{Slot}
 use Rattle.crush_choose.specs.Firstn.{has}
@@ -126,17 +126,17 @@ at_device p zero item end r s none e = let same : item ≡ end = cc in rw (← s
 at_device p (suc n) item end r s none e =
     let other : (0 == suc n) ≡ false = grind (arith, nat_tests) in let bad : Wrong ≡ Found end s = rw other at e in cc
 
-at_bucket : (p : ItemId → Bool) (is : Bool) (item end : ItemId) (r s : ℕ) (can : Bool) (down : Reached) → (if is then p item else can) ≡ false
+at_bucket : (p : ItemId → Bool) (is : Bool) (item end : ItemId) (r s : ℕ) (can : Bool) (down : WalkEnd) → (if is then p item else can) ≡ false
     → (if is then Found item r else down) ≡ Found end s → (can ≡ false → down ≡ Found end s → p end ≡ false) → p end ≡ false
 at_bucket p true item end r s can down none e rest = let same : item ≡ end = cc in rw (← same) none
 at_bucket p false item end r s can down none e rest = rest none e
 
-at_end : (t : TablesView) (wanted : ℕ) (p : ItemId → Bool) (f : ℕ → Bool) (down : ℕ → Reached) (item end : ItemId) (r s : ℕ) (o : Option ℕ)
+at_end : (t : TablesView) (wanted : ℕ) (p : ItemId → Bool) (f : ℕ → Bool) (down : ℕ → WalkEnd) (item end : ItemId) (r s : ℕ) (o : Option ℕ)
     → can_end_at t wanted p f item o ≡ false → at_item t wanted down item r o ≡ Found end s → ((k : ℕ) → f k ≡ false → down k ≡ Found end s → p end ≡ false) → p end ≡ false
 at_end t wanted p f down item end r s None none e rest = at_device p wanted item end r s none e
 at_end t wanted p f down item end r s (Some k) none e rest = at_bucket p (type_at t k == wanted) item end r s (f k) (down k) none e (rest k)
 
-not_empty : (size : ℕ) (a : Reached) (end : ItemId) (s : ℕ) → (if size == 0 then Empty else a) ≡ Found end s → (0 < size) × (a ≡ Found end s)
+not_empty : (size : ℕ) (a : WalkEnd) (end : ItemId) (s : ℕ) → (if size == 0 then Empty else a) ≡ Found end s → (0 < size) × (a ≡ Found end s)
 not_empty zero a end s e = cc
 not_empty (suc n) a end s e = let some : (suc n == 0) ≡ false = grind (arith, nat_tests) in (omega arith, rw some at e)
 

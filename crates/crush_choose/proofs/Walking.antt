@@ -2,8 +2,8 @@
 use Rattle.std.proofs.Common.{◌≡◌, ℕ, zero, suc, ◌<◌, length, Bool, true, false, Option, Some, None, MatchOption, refl, ap, arith, if◌then◌else◌, ◌==◌}
 use Rattle.crush_map.specs.crush_types.specs.declared.ItemId.{ItemId}
 use Rattle.crush_bucket.specs.Tables.{TablesView, pick_at, type_at, size_at, bucket_numbered, IsDevice}
-use Rattle.crush_choose.specs.declared.walk.Reached.{Reached}
-use Rattle.crush_choose.specs.declared.walk.Reached.TheVariants.{Empty, Found}
+use Rattle.crush_choose.specs.declared.walk.WalkEnd.{WalkEnd}
+use Rattle.crush_choose.specs.declared.walk.WalkEnd.TheVariants.{Empty, Found}
 use Rattle.crush_choose.specs.Reach.{at_item, reach_below, reach}
 use Rattle.crush_bucket.specs.Laws.{PicksBelow}
 use Rattle.crush_choose.specs.Laws.{reach_after_pick}
@@ -12,13 +12,13 @@ some_size : (n : ℕ) → (n == 0) ≡ false → 0 < n
 some_size zero h = cc
 some_size (suc n) h = omega arith
 
-at_item-same : (t : TablesView) (wanted : ℕ) (f g : ℕ → Reached) (item : ItemId) (r b : ℕ) (o : Option ℕ) → MatchOption o (IsDevice t item) (λ k. k < b)
+at_item-same : (t : TablesView) (wanted : ℕ) (f g : ℕ → WalkEnd) (item : ItemId) (r b : ℕ) (o : Option ℕ) → MatchOption o (IsDevice t item) (λ k. k < b)
     → ((k : ℕ) → k < b → f k ≡ g k) → at_item t wanted f item r o ≡ at_item t wanted g item r o
 at_item-same t wanted f g item r b None h same = refl
 at_item-same t wanted f g item r b (Some k) h same =
-    ap (λ (o : Reached). if type_at t k == wanted then Found item r else o) (same k h)
+    ap (λ (o : WalkEnd). if type_at t k == wanted then Found item r else o) (same k h)
 
-by_empty : (e : Bool) (a c d : Reached) → (e ≡ false → c ≡ d) → (if e then a else c) ≡ (if e then a else d)
+by_empty : (e : Bool) (a c d : WalkEnd) → (e ≡ false → c ≡ d) → (if e then a else c) ≡ (if e then a else d)
 by_empty true a c d h = refl
 by_empty false a c d h = h refl
 

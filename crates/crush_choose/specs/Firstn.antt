@@ -8,8 +8,8 @@ use Rattle.std.specs.List.{list_any}
 use Rattle.std.specs.Ordering.{int_eq}
 use Rattle.crush_map.specs.crush_types.specs.declared.ItemId.{ItemId}
 use Rattle.crush_bucket.specs.Tables.{TablesView, bucket_numbered}
-use Rattle.crush_choose.specs.declared.walk.Reached.{Reached}
-use Rattle.crush_choose.specs.declared.walk.Reached.TheVariants.{Empty, Wrong, Found}
+use Rattle.crush_choose.specs.declared.walk.WalkEnd.{WalkEnd}
+use Rattle.crush_choose.specs.declared.walk.WalkEnd.TheVariants.{Empty, Wrong, Found}
 use Rattle.crush_choose.specs.declared.firstn.FirstnCall.{FirstnCall}
 use Rattle.crush_choose.specs.declared.mark.Mark.{Mark}
 use Rattle.crush_choose.specs.declared.mark.Mark.TheVariants.{Skipped}
@@ -45,7 +45,7 @@ has slots item = list_any (slot_has item) slots
 -- ---- the leaf of an item
 
 -- the device that a walk found, if it is in and isn't a leaf of a smaller rep
-abbrev pub new_leaf : List ℕ → FirstnCall → List Slot → Reached → Option ItemId
+abbrev pub new_leaf : List ℕ → FirstnCall → List Slot → WalkEnd → Option ItemId
 new_leaf w c leaves (Found item r) = then_some (is_device_in w c.x item && not (has leaves item)) item
 new_leaf w c leaves Empty = None
 new_leaf w c leaves Wrong = None
@@ -83,7 +83,7 @@ leaf_of t w c leaves count item r (Some bucket) =
 
 -- the outcome of try f, by where its walk ended: an item that wasn't chosen yet is placed if it has
 -- a leaf
-abbrev pub firstn_outcome : TablesView → List ℕ → FirstnCall → List Slot → List Slot → ℕ → Reached → Option Mark
+abbrev pub firstn_outcome : TablesView → List ℕ → FirstnCall → List Slot → List Slot → ℕ → WalkEnd → Option Mark
 firstn_outcome t w c items leaves f (Found item r) =
     if has items item then None
     else option_map (placed_by f item) (leaf_of t w c leaves (length items) item r (bucket_numbered t item))

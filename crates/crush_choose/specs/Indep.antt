@@ -8,8 +8,8 @@ use Rattle.std.specs.Bool.{then_some}
 use Rattle.std.specs.Ordering.{int_eq}
 use Rattle.crush_map.specs.crush_types.specs.declared.ItemId.{ItemId}
 use Rattle.crush_bucket.specs.Tables.{TablesView, bucket_numbered}
-use Rattle.crush_choose.specs.declared.walk.Reached.{Reached}
-use Rattle.crush_choose.specs.declared.walk.Reached.TheVariants.{Empty, Wrong, Found}
+use Rattle.crush_choose.specs.declared.walk.WalkEnd.{WalkEnd}
+use Rattle.crush_choose.specs.declared.walk.WalkEnd.TheVariants.{Empty, Wrong, Found}
 use Rattle.crush_choose.specs.declared.indep.IndepCall.{IndepCall}
 use Rattle.crush_choose.specs.declared.mark.Spot.{Spot}
 use Rattle.crush_choose.specs.declared.mark.Mark.{Mark}
@@ -63,7 +63,7 @@ taken marks f pos item = some_below (λ q. is_of item (earlier f pos q (slice_in
 -- ---- the leaf of an item
 
 -- the device that a walk found, if it is in; leaves of different positions aren't compared
-abbrev pub leaf_in : List ℕ → ℕ → Reached → Option ItemId
+abbrev pub leaf_in : List ℕ → ℕ → WalkEnd → Option ItemId
 leaf_in w x (Found item r) = then_some (is_device_in w x item) item
 leaf_in w x Empty = None
 leaf_in w x Wrong = None
@@ -87,7 +87,7 @@ indep_leaf_of t w c pos item r (Some bucket) =
 
 -- the outcome of try f, by where its walk ended: an item that isn't taken is placed if it has a
 -- leaf
-abbrev pub indep_outcome : TablesView → List ℕ → IndepCall → Marks → ℕ → ℕ → Reached → Option Mark
+abbrev pub indep_outcome : TablesView → List ℕ → IndepCall → Marks → ℕ → ℕ → WalkEnd → Option Mark
 indep_outcome t w c marks pos f (Found item r) =
     if taken marks f pos item then None
     else option_map (placed_by f item) (indep_leaf_of t w c pos item r (bucket_numbered t item))

@@ -15,7 +15,7 @@ use crate::effort::Effort;
 use crate::mark::{Mark, Spot};
 use crate::reachable::{can_choose, can_have_leaf};
 use crate::row::{Row, Slot};
-use crate::walk::{Reached, Walk, reach_by};
+use crate::walk::{Walk, WalkEnd, reach_by};
 use crate::weights::{Weights, is_device_in};
 use crush_bucket::laws::a_pick_is_pickable;
 use crush_bucket::{BucketNo, Scratch, Tables};
@@ -63,7 +63,7 @@ pub fn has(slots: &[Slot], item: ItemId) -> bool
 
 /// What is decided of a rep.
 #[derive(Clone, Copy)]
-enum Decision {
+enum RepOutcome {
     /// The mark of the rep.
     Mark(Option<Mark>),
     /// Nothing more can be placed, for this rep or a later one.
@@ -104,7 +104,7 @@ impl<'a> Firstn<'a> {
             from: bucket,
         };
         match reach_by(scratch, walk, r, effort) {
-            Reached::Found(item, _) => {
+            WalkEnd::Found(item, _) => {
                 let is_new = is_device_in(self.weights, x, item) && !has(self.leaves, item);
                 is_new.then_some(item)
             }
@@ -201,9 +201,9 @@ impl<'a> Firstn<'a> {
             from: self.call.bucket,
         };
         let (item, r) = match reach_by(scratch, walk, rep + round, effort) {
-            Reached::Found(item, r) => (item, r),
-            Reached::Empty => return None,
-            Reached::Wrong => return Some(Mark::Skipped),
+            WalkEnd::Found(item, r) => (item, r),
+            WalkEnd::Empty => return None,
+            WalkEnd::Wrong => return Some(Mark::Skipped),
         };
         if has(self.items, item) {
             return None;
@@ -229,7 +229,7 @@ impl<'a> Firstn<'a> {
     /// Decides a rep: its mark is that of its first try that doesn't fail. It gives up where no try
     /// can place an item.
     #[tactic(auto, unfolding(crate::specs::Firstn::decided))]
-    fn decide(&self, scratch: &mut Scratch, rep: u32, effort: &mut Effort) -> Decision
+    fn decide(&self, scratch: &mut Scratch, rep: u32, effort: &mut Effort) -> RepOutcome
         requires from { self.now.call.now.bucket < length scratch.old.buckets }
         requires rep { rep ≤ COUNT_LIMIT }
         ensures value { let s = self.now in IsDecision scratch.old s.weights.now s.call.now s.items.now s.leaves.now (spec.decided scratch.old s.weights.now s.call.now s.items.now s.leaves.now rep) result }
@@ -240,21 +240,21 @@ impl<'a> Firstn<'a> {
         for round in 0..self.call.tries {
             let mark = self.firstn_try(scratch, rep, round, effort);
             if mark.is_some() {
-                return Decision::Mark(mark);
+                return RepOutcome::Mark(mark);
             }
             let tables = scratch.tables();
             if !asked && effort.is_due(tables, self.call.bucket, since) {
                 asked = true;
                 if !self.can_place(tables) {
-                    return Decision::Hopeless;
+                    return RepOutcome::Hopeless;
                 }
             }
         }
-        Decision::Mark(None)
+        RepOutcome::Mark(None)
     }
 
     /// Decides a rep: it has no mark where no room is left.
-    fn decide_with_room(&self, scratch: &mut Scratch, rep: u32, effort: &mut Effort) -> Decision
+    fn decide_with_room(&self, scratch: &mut Scratch, rep: u32, effort: &mut Effort) -> RepOutcome
         requires from { self.now.call.now.bucket < length scratch.old.buckets }
         requires rep { rep ≤ COUNT_LIMIT }
         ensures value { let s = self.now in IsDecision scratch.old s.weights.now s.call.now s.items.now s.leaves.now (spec.mark_beside scratch.old s.weights.now s.call.now s.items.now s.leaves.now rep) result }
@@ -264,7 +264,7 @@ impl<'a> Firstn<'a> {
         if (self.items.len() as u32) < self.call.room {
             self.decide(scratch, rep, effort)
         } else {
-            Decision::Mark(None)
+            RepOutcome::Mark(None)
         }
     }
 }
@@ -322,8 +322,8 @@ pub fn choose_firstn(
         };
         let decision = firstn.decide_with_room(scratch, rep, &mut effort);
         match decision {
-            Decision::Mark(mark) => add(items, leaves, mark),
-            Decision::Hopeless => return,
+            RepOutcome::Mark(mark) => add(items, leaves, mark),
+            RepOutcome::Hopeless => return,
         }
     }
 }

@@ -16,7 +16,7 @@ use crate::limits::SIZE_LIMIT;
 use crate::mark::{Mark, Spot};
 use crate::reachable::{can_choose, can_have_leaf};
 use crate::row::{Row, Slot};
-use crate::walk::{Attempts, Reached, Walk, reach};
+use crate::walk::{Attempts, Walk, WalkEnd, reach};
 use crate::weights::{Weights, is_device_in};
 use crush_bucket::laws::a_pick_is_pickable;
 use crush_bucket::{BucketNo, Scratch, Tables};
@@ -157,9 +157,9 @@ impl<'a> Indep<'a> {
             round,
         };
         match reach(scratch, walk, attempts, effort) {
-            Reached::Found(item, _) => is_device_in(self.weights, x, item).then_some(item),
-            Reached::Empty => None,
-            Reached::Wrong => None,
+            WalkEnd::Found(item, _) => is_device_in(self.weights, x, item).then_some(item),
+            WalkEnd::Empty => None,
+            WalkEnd::Wrong => None,
         }
     }
 
@@ -245,9 +245,9 @@ impl<'a> Indep<'a> {
             round,
         };
         let (item, r) = match reach(scratch, walk, attempts, effort) {
-            Reached::Found(item, r) => (item, r),
-            Reached::Empty => return None,
-            Reached::Wrong => return Some(Mark::Skipped),
+            WalkEnd::Found(item, r) => (item, r),
+            WalkEnd::Empty => return None,
+            WalkEnd::Wrong => return Some(Mark::Skipped),
         };
         if taken(marks, round, pos, item) {
             return None;

@@ -30,5 +30,5 @@ pub use indep::{IndepCall, choose_indep};
 pub use mark::{Mark, Spot};
 pub use row::{Row, Slot};
 pub use rule::{Out, run_rule, touches};
-pub use walk::Reached;
+pub use walk::WalkEnd;
 pub use weights::{FULL, Weights, is_in};

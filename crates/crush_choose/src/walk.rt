@@ -28,7 +28,7 @@ pub(crate) struct Attempts {
 
 /// Where a walk ended.
 #[derive(Clone, Copy, Debug)]
-pub enum Reached {
+pub enum WalkEnd {
     /// It ended at a bucket without items.
     Empty,
     /// It ended at a device where another type is required.
@@ -65,7 +65,7 @@ pub(crate) fn reach(
     walk: Walk,
     attempts: Attempts,
     effort: &mut Effort,
-) -> Reached
+) -> WalkEnd
     requires from { walk.from < length scratch.old.buckets }
     requires attempts { AreAttempts attempts }
     ensures value { result ≡ reach scratch.old walk.x (λ b. attempts.start + step scratch.old attempts.numrep attempts.round b) walk.wanted walk.from }
@@ -76,7 +76,7 @@ pub(crate) fn reach(
     let mut bucket = walk.from;
     'down: loop {
         if tables.is_empty(bucket) {
-            return Reached::Empty;
+            return WalkEnd::Empty;
         }
         effort.add_pick();
         let r = attempt_at(tables, attempts, bucket);
@@ -84,14 +84,14 @@ pub(crate) fn reach(
         match tables.bucket_of(item) {
             None => {
                 return if walk.wanted == 0 {
-                    Reached::Found(item, r)
+                    WalkEnd::Found(item, r)
                 } else {
-                    Reached::Wrong
+                    WalkEnd::Wrong
                 };
             }
             Some(below) => {
                 if tables.type_of(below) == walk.wanted {
-                    return Reached::Found(item, r);
+                    return WalkEnd::Found(item, r);
                 }
                 bucket = below;
             }
@@ -101,7 +101,7 @@ pub(crate) fn reach(
 
 /// Walks as `reach` does, with the same attempt at each bucket.
 #[inline(always)]
-pub(crate) fn reach_by(scratch: &mut Scratch, walk: Walk, r: u32, effort: &mut Effort) -> Reached
+pub(crate) fn reach_by(scratch: &mut Scratch, walk: Walk, r: u32, effort: &mut Effort) -> WalkEnd
     requires from { walk.from < length scratch.old.buckets }
     requires low { r < 2 ^ 31 }
     ensures value { result ≡ reach scratch.old walk.x (λ b. r) walk.wanted walk.from }

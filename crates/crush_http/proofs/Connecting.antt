@@ -13,11 +13,11 @@ use Rattle.crush_http.specs.Headers.{bytes}
 use Rattle.crush_http.specs.Messages.{Message, MessageAt, message_of, calls_of, Stop, input_ended, refused, last_served, read_failed, write_failed, HasMessages, GoesOn, IsHalf, IsRejected}
 use Rattle.crush_http.specs.Serving.{due, EndsAs, Writes, LeavesUnread, ServesInput}
 use Rattle.crush_http.specs.Wire.{output, reply_wire, rejection_wire}
-use Rattle.crush_http.specs.declared.connection.Ended.{Ended}
-use Rattle.crush_http.specs.declared.connection.Ended.TheVariants.{WriteFault}
+use Rattle.crush_http.specs.declared.connection.Ending.{Ending}
+use Rattle.crush_http.specs.declared.connection.Ending.TheVariants.{WriteFault}
 use Rattle.crush_http.specs.declared.limits.TheConstants.{MESSAGE_LIMIT}
 use Rattle.crush_http.specs.declared.rejection.Rejection.{Rejection}
-use Rattle.crush_http.specs.declared.request.Request.{Request}
+use Rattle.crush_http.specs.declared.request.MessagePlaces.{MessagePlaces}
 use Rattle.crush_http.specs.Private.Reading.{ReadsOn, IsMessageOf, used, call_in}
 use Rattle.crush_http.specs.Private.Served.{ServesOne, ServesAtMostOne, EndsOn, EndsHeld, EndsCut}
 use Rattle.crush_http.proofs.Finding.{MessageAt-append, rejected-append}
@@ -61,7 +61,7 @@ due-append (read_failed unread) ms ns rs qs count = output-append ms ns rs qs co
 due-append write_failed ms ns rs qs count = output-append ms ns rs qs count
 
 -- what was held is written at the end, or a part of it
-pub finished : (e end : Ended) (stop : Stop) (a b c d : Option (List ℕ)) (held now xs more : List ℕ) → AppendsUpTo held a b xs → EndsHeld e held now b c stop more
+pub finished : (e end : Ending) (stop : Stop) (a b c d : Option (List ℕ)) (held now xs more : List ℕ) → AppendsUpTo held a b xs → EndsHeld e held now b c stop more
     → ((end ≡ e) × Appends c d now) ⊎ ((end ≡ WriteFault) × AppendsPart c d now) → Writes end stop (xs ++ more) a d
 finished e end stop a b c d held now xs more first ends (inl whole) =
     inl (subst (EndsAs stop) (sym whole.0) ends.0, up_to_written a c d now (xs ++ more) (up_to_on a b c held now xs more first ends.1) whole.1)
@@ -69,7 +69,7 @@ finished e end stop a b c d held now xs more first ends (inr part) =
     inr (part.0, part_written a c d now (xs ++ more) (up_to_on a b c held now xs more first ends.1) part.1)
 
 -- a write failed before
-pub cut : (end : Ended) (stop : Stop) (a b c : Option (List ℕ)) (held xs more : List ℕ) → AppendsUpTo held a b xs → EndsCut held b c stop more → end ≡ WriteFault → Writes end stop (xs ++ more) a c
+pub cut : (end : Ending) (stop : Stop) (a b c : Option (List ℕ)) (held xs more : List ℕ) → AppendsUpTo held a b xs → EndsCut held b c stop more → end ≡ WriteFault → Writes end stop (xs ++ more) a c
 cut end stop a b c held xs more first ends e = inr (e, part_on a b c held xs more first ends)
 
 -- ---- the messages so far
@@ -127,7 +127,7 @@ reached_one Meets Then One most buffer rest held now a b c from mid to first rea
     }
 
 -- the end
-pub reached_end : (Meets Then Last : List Call → List Reply → Type 0) (most : ℕ) (buffer held : List ℕ) (a b c from mid to : Option (List ℕ)) (e : Ended) (Holds : Stop → List ℕ → Type 0)
+pub reached_end : (Meets Then Last : List Call → List Reply → Type 0) (most : ℕ) (buffer held : List ℕ) (a b c from mid to : Option (List ℕ)) (e : Ending) (Holds : Stop → List ℕ → Type 0)
     → Reached Meets most buffer held a b from mid → EndsOn Last most buffer b c Holds → ((cs ds : List Call) (rs qs : List Reply) → Meets cs rs → Last ds qs → Then (cs ++ ds) (rs ++ qs))
     → ((stop : Stop) (xs more : List ℕ) → AppendsUpTo held from mid xs → Holds stop more → Writes e stop (xs ++ more) from to) → OfInput a (λ input. ServesInput Then input c from to e)
 reached_end Meets Then Last most buffer held a b c from mid to e Holds first end join writes = record {
@@ -234,7 +234,7 @@ pub record Finds (most : ℕ) (asked : Call) (ends : Bool) (rest input : List �
 taken_size : (n : ℕ) (body : List ℕ) → n ≤ length body → length (take n body) ≡ n
 taken_size n body h = omega (arith, length-take n body)
 
-finds : (most : ℕ) (there buffer : List ℕ) (r : Request) (body rest : List ℕ) (last : Bool) (a b : Option (List ℕ)) → ReadsOn there a b (IsMessageOf buffer r body) → rest ≡ drop (used r (length buffer)) buffer
+finds : (most : ℕ) (there buffer : List ℕ) (r : MessagePlaces) (body rest : List ℕ) (last : Bool) (a b : Option (List ℕ)) → ReadsOn there a b (IsMessageOf buffer r body) → rest ≡ drop (used r (length buffer)) buffer
     → last ≡ (r.closes || most == 1) → ReadsOn there a b (Finds most (call_in buffer r (take r.size body)) last rest)
 finds most there buffer r body rest last a b read e f =
     let h = read.holds in record {
@@ -255,7 +255,7 @@ finds most there buffer r body rest last a b read e f =
     }
 
 -- the same in the words of the code
-pub finds_call : (most : ℕ) (there front buffer : List ℕ) (r : Request) (body rest : List ℕ) (last : Bool) (count : ℕ) (asked : Call) (a b : Option (List ℕ)) → ReadsOn there a b (IsMessageOf buffer r body)
+pub finds_call : (most : ℕ) (there front buffer : List ℕ) (r : MessagePlaces) (body rest : List ℕ) (last : Bool) (count : ℕ) (asked : Call) (a b : Option (List ℕ)) → ReadsOn there a b (IsMessageOf buffer r body)
     → front ≡ buffer → count ≡ used r (length front) → rest ≡ drop count buffer → last ≡ (r.closes || most == 1) → asked ≡ call_in front r (take r.size body) → ReadsOn there a b (Finds most asked last rest)
 finds_call most there front buffer r body rest last count asked a b read same counted dropped is_last is_call =
     subst (λ k. ReadsOn there a b (Finds most k last rest)) (sym (is_call ∙ ap (λ f. call_in f r (take r.size body)) same))

@@ -8,7 +8,7 @@ use Rattle.httparse.specs.Spans.{RequestOverflows}
 use Rattle.crush_http.specs.Head.{HeadAt, HasNoHead, IsTooLong}
 use Rattle.crush_http.specs.Messages.{Message, MessageAt, IsHalf, IsRejected}
 use Rattle.crush_http.specs.declared.rejection.Rejection.{Rejection}
-use Rattle.crush_http.specs.declared.request.Request.{Request}
+use Rattle.crush_http.specs.declared.request.MessagePlaces.{MessagePlaces}
 use Rattle.crush_http.specs.declared.limits.TheConstants.{HEAD_LIMIT, HEADER_LIMIT}
 use Rattle.crush_http.specs.Private.Reading.{ReadsOn, IsRequest, IsMessageOf, IsBodyOf, used}
 
@@ -74,7 +74,7 @@ MessageAt-append most input more m rest h = record {
 -- ---- a body in the buffer, and what was read after it
 
 -- too few bytes for the body
-pub half_body : (buffer : List ℕ) (r : Request) (head : RequestHead) (n : ℕ) (first : List ℕ) (b c : Option (List ℕ)) → IsRequest buffer r head → first ≡ drop r.len buffer → n ≡ r.size
+pub half_body : (buffer : List ℕ) (r : MessagePlaces) (head : RequestHead) (n : ℕ) (first : List ℕ) (b c : Option (List ℕ)) → IsRequest buffer r head → first ≡ drop r.len buffer → n ≡ r.size
     → ReadsOn first b c (λ all. length all < n) → ReadsOn buffer b c IsHalf
 half_body buffer r head n first b c is e f read = record {
   more = read.more;
@@ -90,7 +90,7 @@ half_body buffer r head n first b c is e f read = record {
 }
 
 -- the whole body
-pub whole_body : (buffer : List ℕ) (r : Request) (head : RequestHead) (first body room : List ℕ) (b c : Option (List ℕ)) → IsRequest buffer r head → first ≡ drop r.len buffer
+pub whole_body : (buffer : List ℕ) (r : MessagePlaces) (head : RequestHead) (first body room : List ℕ) (b c : Option (List ℕ)) → IsRequest buffer r head → first ≡ drop r.len buffer
     → length body ≡ r.size → take r.size room ≡ body → r.size ≤ length room → ReadsOn first b c (IsBodyOf body first) → ReadsOn buffer b c (IsMessageOf buffer r room)
 whole_body buffer r head first body room b c is e long front within read = record {
   more = read.more;

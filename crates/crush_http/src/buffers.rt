@@ -4,7 +4,7 @@ ghost use Rattle.std.specs.Prelude.{◌≡◌, [], length};
 ghost use Rattle.tenant_core.specs.declared.limits.TheConstants.{BODY_LIMIT};
 
 use crate::buffer::Buffer;
-use crate::held::Held;
+use crate::held::HeldBytes;
 use std::alloc::{AllocError, Global};
 use tenant_core::limits::BODY_LIMIT;
 
@@ -13,7 +13,7 @@ use tenant_core::limits::BODY_LIMIT;
 #[derive(Drop)]
 pub struct Buffers {
     pub(crate) read: Buffer,
-    pub(crate) held: Held,
+    pub(crate) held: HeldBytes,
     pub(crate) body: Vec<u8>,
     ghost room: { length body.items ≡ BODY_LIMIT },
 }
@@ -23,7 +23,7 @@ impl Buffers {
     /// limit. `Err(AllocError)`: an allocation failed; nothing is changed.
     pub fn new(alloc: Global) -> Result<Buffers, AllocError> {
         let read = Buffer::new(alloc)?;
-        let held = Held::new(alloc)?;
+        let held = HeldBytes::new(alloc)?;
         let body = vec![in alloc; 0; BODY_LIMIT]?;
         Ok(Buffers { read, held, body })
     }

@@ -10,7 +10,7 @@ ghost use Rattle.crush_http.specs.Private.Reading.{Finds, ReadsOn};
 ghost use Rattle.crush_http.specs.Private.Served.{EndsCut, EndsHeld, EndsOn, OnCut, OnEnded, OnNext, Replies, ServesAtMostOne, ServesOne};
 
 use crate::buffers::Buffers;
-use crate::held::Held;
+use crate::held::HeldBytes;
 use crate::limits::MESSAGE_LIMIT;
 use crate::message::{Incoming, read_message};
 use crate::request::call_of;
@@ -22,7 +22,7 @@ use tenant_service::Service;
 
 /// How a connection ended.
 #[derive(Clone, Copy, Debug, PartialEq, Eq)]
-pub enum Ended {
+pub enum Ending {
     /// The input ended, or the last message was served, and all replies were written.
     Closed,
     /// What came was no message. All replies were written, and then the one that says so.
@@ -37,7 +37,7 @@ pub enum Ended {
 enum Turn {
     Next,
     /// The connection ends so once what is held is written.
-    Ended(Ended),
+    Ended(Ending),
     /// A write failed, and no more is written.
     Cut,
 }
@@ -103,10 +103,10 @@ fn serve_one<T: TenantStore, R: Read, W: Write>(
             if !put_rejection(&mut buffers.held, writer, reason) {
                 return Turn::Cut;
             }
-            return Turn::Ended(Ended::Bad);
+            return Turn::Ended(Ending::Bad);
         }
-        Incoming::Ended => return Turn::Ended(Ended::Closed),
-        Incoming::Fault => return Turn::Ended(Ended::ReadFault),
+        Incoming::Ended => return Turn::Ended(Ending::Closed),
+        Incoming::Fault => return Turn::Ended(Ending::ReadFault),
     };
     let bytes = buffers.read.bytes();
     let used = request.used(bytes.len());
@@ -117,20 +117,20 @@ fn serve_one<T: TenantStore, R: Read, W: Write>(
         return Turn::Cut;
     }
     if last {
-        Turn::Ended(Ended::Closed)
+        Turn::Ended(Ending::Closed)
     } else {
         Turn::Next
     }
 }
 
-/// Writes what is held, and returns `ended`, or `Ended::WriteFault` if not all of it was written.
-fn finish<W: Write>(held: &mut Held, writer: &mut W, ended: Ended) -> Ended
-    ensures { ((result ≡ ended) × Appends (W.contents writer.old) (W.contents writer.new) held.old) ⊎ ((result ≡ Ended.WriteFault) × AppendsPart (W.contents writer.old) (W.contents writer.new) held.old) }
+/// Writes what is held, and returns `ended`, or `Ending::WriteFault` if not all of it was written.
+fn finish<W: Write>(held: &mut HeldBytes, writer: &mut W, ended: Ending) -> Ending
+    ensures { ((result ≡ ended) × Appends (W.contents writer.old) (W.contents writer.new) held.old) ⊎ ((result ≡ Ending.WriteFault) × AppendsPart (W.contents writer.old) (W.contents writer.new) held.old) }
 {
     if held.flush(writer) {
         ended
     } else {
-        Ended::WriteFault
+        Ending::WriteFault
     }
 }
 
@@ -140,7 +140,7 @@ fn serve_all<T: TenantStore, R: Read, W: Write>(
     service: &mut Service<T>,
     reader: &mut R,
     writer: &mut W,
-) -> Ended
+) -> Ending
     requires unused { buffers.old.read ≡ [] }
     requires empty { buffers.old.held ≡ [] }
     ensures served { OfInput (R.remaining reader.old)
@@ -153,7 +153,7 @@ fn serve_all<T: TenantStore, R: Read, W: Write>(
         match serve_one(buffers, service, reader, writer, most) {
             Turn::Next => most -= 1,
             Turn::Ended(ended) => return finish(&mut buffers.held, writer, ended),
-            Turn::Cut => return Ended::WriteFault,
+            Turn::Cut => return Ending::WriteFault,
         }
     }
 }
@@ -165,7 +165,7 @@ pub fn serve_with<T: TenantStore, R: Read, W: Write>(
     service: &mut Service<T>,
     reader: &mut R,
     writer: &mut W,
-) -> Ended
+) -> Ending
     ensures served { OfInput (R.remaining reader.old)
         (λ input. ServesInput (λ calls replies. T.is_honest service.new → ServesSession (T.latched service.old) (T.latched service.new) (T.has_state service.old) (T.has_state service.new) (T.may_leave service.new) calls replies) input (R.remaining reader.new) (W.contents writer.old) (W.contents writer.new) result) }
     ensures rests { T.latched service.old ≡ true → service.new ≡ service.old }
@@ -188,7 +188,7 @@ pub fn serve<T: TenantStore, R: Read, W: Write>(
     service: &mut Service<T>,
     reader: &mut R,
     writer: &mut W,
-) -> Result<Ended, AllocError>
+) -> Result<Ending, AllocError>
     // The messages of the input were served up to a stop: the headline holds of their calls and the
     // replies, and these are a sound session, which leaves what it may leave. What was written is
     // the wire form of these replies, in order, and of the one to what is no message, and nothing

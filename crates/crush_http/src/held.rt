@@ -14,12 +14,12 @@ use tenant_service::write_whole;
 
 /// Bytes that wait to be written, at most `HELD_LIMIT`.
 #[derive(Drop)]
-pub(crate) struct Held {
+pub(crate) struct HeldBytes {
     room: Vec<u8>,
     filled: usize,
 }
 
-impl Model for Held {
+impl Model for HeldBytes {
     ghost Value = { List ℕ };
 
     ghost view = { λ h. take h.filled h.room.items };
@@ -27,14 +27,14 @@ impl Model for Held {
     ghost invariant = { λ h. (length h.room.items ≡ HELD_LIMIT) × (h.filled ≤ HELD_LIMIT) };
 }
 
-impl Held {
+impl HeldBytes {
     /// Takes the memory for `HELD_LIMIT` bytes, and holds none. `Err(AllocError)`: an allocation
     /// failed; nothing is changed.
-    pub(crate) fn new(alloc: Global) -> Result<Held, AllocError>
+    pub(crate) fn new(alloc: Global) -> Result<HeldBytes, AllocError>
         ensures { IfOk result (λ h. h ≡ []) }
     {
         let room = vec![in alloc; 0; HELD_LIMIT]?;
-        Ok(Held { room, filled: 0 })
+        Ok(HeldBytes { room, filled: 0 })
     }
 
     /// Drops what is held.

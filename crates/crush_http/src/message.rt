@@ -9,14 +9,14 @@ use crate::buffer::Buffer;
 use crate::head::{HeadRead, read_head};
 use crate::limits::HEADER_LIMIT;
 use crate::rejection::Rejection;
-use crate::request::{Request, request_of};
+use crate::request::{MessagePlaces, request_of};
 use httparse::spans::EMPTY_HEADER_SPAN;
 use std::io::Read;
 
 /// What comes next.
 pub(crate) enum Incoming {
     /// A message. Its head is in the buffer, and its body was read.
-    Message(Request),
+    Message(MessagePlaces),
     /// What comes is no message, whatever bytes follow.
     Rejected(Rejection),
     /// The input ends before a message is whole.

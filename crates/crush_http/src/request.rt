@@ -15,7 +15,7 @@ use tenant_core::CallParts;
 
 /// The places of the parts of a message in the buffer, and the length of its body.
 #[derive(Clone, Copy)]
-pub(crate) struct Request {
+pub(crate) struct MessagePlaces {
     pub method: Span,
     pub path: Span,
     /// The length of the head, in bytes, after which the body begins.
@@ -26,7 +26,7 @@ pub(crate) struct Request {
     pub closes: bool,
 }
 
-impl Request {
+impl MessagePlaces {
     ghost use Rattle.std.specs.Prelude.{◌≡◌, ◌≤◌};
     ghost use Rattle.crush_http.specs.Private.Reading.{used};
 
@@ -45,7 +45,7 @@ pub(crate) fn request_of(
     bytes: &[u8],
     found: &RequestSpans,
     headers: &[HeaderSpan],
-) -> Result<Request, Rejection>
+) -> Result<MessagePlaces, Rejection>
     requires limit { length bytes.now ≤ HEAD_LIMIT }
     requires room { length headers.now ≤ HEADER_LIMIT }
     requires of { IsRequestOf bytes.now headers.now found.now }
@@ -55,7 +55,7 @@ pub(crate) fn request_of(
 {
     let fields = &headers[..found.headers];
     let size = size_of(bytes, fields)?;
-    Ok(Request {
+    Ok(MessagePlaces {
         method: found.method,
         path: found.path,
         len: found.len,
@@ -65,7 +65,7 @@ pub(crate) fn request_of(
 }
 
 /// Returns the call of a message. Allocates nothing.
-pub(crate) fn call_of<'a>(bytes: &'a [u8], request: &Request, body: &'a [u8]) -> CallParts<'a>
+pub(crate) fn call_of<'a>(bytes: &'a [u8], request: &MessagePlaces, body: &'a [u8]) -> CallParts<'a>
     requires { (head : RequestHead) × IsRequest bytes.now request.now head }
     ensures { spec.call_of result ≡ call_in bytes.now request.now body.now }
 {

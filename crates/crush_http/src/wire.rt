@@ -5,7 +5,7 @@ ghost use Rattle.std.specs.List.{flat_map};
 ghost use Rattle.crush_http.specs.Wire as spec;
 ghost use Rattle.crush_http.specs.Private.Served.{Puts};
 
-use crate::held::Held;
+use crate::held::HeldBytes;
 use crate::rejection::Rejection;
 use http::StatusCode;
 use std::io::Write;
@@ -14,7 +14,7 @@ use tenant_service::shown_body;
 
 /// Puts the pieces, one after the other, after what is held, and returns whether all bytes are held
 /// or written. Allocates nothing.
-fn put_pieces<W: Write>(held: &mut Held, writer: &mut W, pieces: &[&[u8]]) -> bool
+fn put_pieces<W: Write>(held: &mut HeldBytes, writer: &mut W, pieces: &[&[u8]]) -> bool
     ensures { Puts result held.old held.new (W.contents writer.old) (W.contents writer.new) (flat_map (λ piece. piece.now) pieces.now) }
 {
     for piece in pieces {
@@ -68,7 +68,13 @@ fn pieces_of<'a>(
 
 /// Puts a reply with `status` and `body` after what is held, and returns whether all of it is held
 /// or written. Allocates nothing.
-fn put_with<W: Write>(held: &mut Held, writer: &mut W, last: bool, status: u16, body: &[u8]) -> bool
+fn put_with<W: Write>(
+    held: &mut HeldBytes,
+    writer: &mut W,
+    last: bool,
+    status: u16,
+    body: &[u8],
+) -> bool
     ensures { Puts result held.old held.new (W.contents writer.old) (W.contents writer.new) (spec.wire last status body.now) }
 {
     let mut status_buffer = itoa::Buffer::new();
@@ -88,7 +94,7 @@ fn put_with<W: Write>(held: &mut Held, writer: &mut W, last: bool, status: u16, 
 /// Puts `reply` after what is held, and returns whether all of it is held or written. `last` says
 /// whether the connection ends after it. Allocates nothing.
 pub(crate) fn put_reply<W: Write>(
-    held: &mut Held,
+    held: &mut HeldBytes,
     writer: &mut W,
     last: bool,
     reply: &Reply,
@@ -128,7 +134,11 @@ fn rejection_body(reason: Rejection) -> &'static [u8]
 
 /// Puts the reply to what is no message for `reason` after what is held, and returns whether all of
 /// it is held or written. Allocates nothing.
-pub(crate) fn put_rejection<W: Write>(held: &mut Held, writer: &mut W, reason: Rejection) -> bool
+pub(crate) fn put_rejection<W: Write>(
+    held: &mut HeldBytes,
+    writer: &mut W,
+    reason: Rejection,
+) -> bool
     ensures { Puts result held.old held.new (W.contents writer.old) (W.contents writer.new) (spec.rejection_wire reason) }
 {
     put_with(

@@ -5,7 +5,7 @@ use Rattle.std.specs.Map.{lookup, values_of}
 use Rattle.std.proofs.lemmas.List.Sums.{sum_by-append, sum_by-cons, sum_by-le-sum_by}
 use Rattle.crush_map.specs.Map.{Map}
 use Rattle.tenant_core.specs.crush_text.specs.crush_writing.specs.Canonical.{canonical}
-use Rattle.tenant_cache.specs.Kept.{Kept, Ready, bytes_kept, kept_at}
+use Rattle.tenant_cache.specs.Kept.{KeptTenants, ReadyTenant, bytes_kept, kept_at}
 use Rattle.crush_laws.specs.Sizes.{item_count, pair_count, step_count, text_bytes}
 use Rattle.tenant_core.specs.tenant_state.specs.Size.{items_in, pool_size, size, states_size, steps_in, version_size}
 use Rattle.tenant_core.specs.tenant_state.specs.State.{Inventory, TenantPool}
@@ -43,7 +43,7 @@ one_pool i p = omega (arith, sum_by-append pool_size i.pools (p ∷ []), sum_by-
 
 -- ---- what is kept
 
-found_in : {K : Type 0} (f : Ready → ℕ) (test : K → Bool) (es : List (K × Ready)) (r : Ready) → lookup test es ≡ Some r → f r ≤ sum_by f (values_of es)
+found_in : {K : Type 0} (f : ReadyTenant → ℕ) (test : K → Bool) (es : List (K × ReadyTenant)) (r : ReadyTenant) → lookup test es ≡ Some r → f r ≤ sum_by f (values_of es)
 found_in f test [] r found = cc
 found_in {K} f test ((k, v) ∷ es) r found =
     let by : (b : Bool) → test k ≡ b → f r ≤ f v + sum_by f (values_of es) = λ b. elim b as (λ c. test k ≡ c → f r ≤ f v + sum_by f (values_of es)) [
@@ -51,8 +51,8 @@ found_in {K} f test ((k, v) ∷ es) r found =
       | false ↦ λ e. (let later = found_in f test es r (rw e at found) in omega (arith, later))
     ] in subst (λ n. f r ≤ n) (sym (sum_by-cons f v (values_of es))) (by (test k) refl)
 
-pub takes_each : (kept : Kept) (name : List ℕ) (r : Ready) → kept_at kept name ≡ Some r → size r.inventory ≤ bytes_kept kept
-takes_each kept name r found = found_in (λ (r : Ready). size r.inventory) (bytes_eq name) kept.entries r found
+pub takes_each : (kept : KeptTenants) (name : List ℕ) (r : ReadyTenant) → kept_at kept name ≡ Some r → size r.inventory ≤ bytes_kept kept
+takes_each kept name r found = found_in (λ (r : ReadyTenant). size r.inventory) (bytes_eq name) kept.entries r found
 
-pub takes_all : (kept : Kept) → sum_by (λ (r : Ready). text_bytes r.inventory) (values_of kept.entries) ≤ bytes_kept kept
-takes_all kept = sum_by-le-sum_by (λ (r : Ready). text_bytes r.inventory) (λ (r : Ready). size r.inventory) (values_of kept.entries) (λ r. takes_texts r.inventory)
+pub takes_all : (kept : KeptTenants) → sum_by (λ (r : ReadyTenant). text_bytes r.inventory) (values_of kept.entries) ≤ bytes_kept kept
+takes_all kept = sum_by-le-sum_by (λ (r : ReadyTenant). text_bytes r.inventory) (λ (r : ReadyTenant). size r.inventory) (values_of kept.entries) (λ r. takes_texts r.inventory)

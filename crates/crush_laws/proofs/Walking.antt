@@ -12,8 +12,8 @@ use Rattle.crush_bucket.specs.Pick.{pick}
 use Rattle.crush_bucket.specs.Tables.{tables_of, bucket_at, pick_at, bucket_numbered}
 use Rattle.crush_bucket.proofs.Numbered.{none_of_device, same_id}
 use Rattle.crush_bucket.proofs.Validity.{is_laid}
-use Rattle.crush_choose.specs.declared.walk.Reached.{Reached}
-use Rattle.crush_choose.specs.declared.walk.Reached.TheVariants.{Empty, Wrong, Found}
+use Rattle.crush_choose.specs.declared.walk.WalkEnd.{WalkEnd}
+use Rattle.crush_choose.specs.declared.walk.WalkEnd.TheVariants.{Empty, Wrong, Found}
 use Rattle.crush_choose.specs.Reach.{at_item, reach}
 use Rattle.crush_choose.specs.Laws.{reach_after_pick}
 use Rattle.crush_laws.specs.MapTree.{Tree, device, bucket, Branches, no_branches, branch, id_of, type_of, items_of, IsTreeOf, AreTreesOf}
@@ -25,7 +25,7 @@ abbrev pub at_number : Map → (BucketView → ℕ) → ℕ → ℕ
 at_number m rr k = rr (bucket_at (tables_of m) k)
 
 -- a walk by numbers
-abbrev pub by_number : Map → ℕ → (BucketView → ℕ) → ℕ → ℕ → Reached
+abbrev pub by_number : Map → ℕ → (BucketView → ℕ) → ℕ → ℕ → WalkEnd
 by_number m x rr wanted k = reach (tables_of m) x (at_number m rr) wanted k
 
 -- it is one pick, followed by the walk from what was picked
@@ -36,7 +36,7 @@ abbrev pub PicksItems : Type 0
 PicksItems = (b : BucketView) (x r : ℕ) → 0 < length b.items → IsItemOf b.items (pick b x r)
 
 -- what follows once an item was picked
-abbrev after : Map → ℕ → (BucketView → ℕ) → ℕ → ItemId → ℕ → Reached
+abbrev after : Map → ℕ → (BucketView → ℕ) → ℕ → ItemId → ℕ → WalkEnd
 after m x rr wanted item r = at_item (tables_of m) wanted (by_number m x rr wanted) item r (bucket_numbered (tables_of m) item)
 
 abbrev Ends : Map → ℕ → (BucketView → ℕ) → ℕ → Tree → Type 0
@@ -45,11 +45,11 @@ Ends m x rr wanted tree = (k : ℕ) → bucket_numbered (tables_of m) (id_of tre
 abbrev EndsBelow : Map → ℕ → (BucketView → ℕ) → ℕ → Branches → Type 0
 EndsBelow m x rr wanted below = (item : ItemId) (r : ℕ) → IsItemOf (items_of below) item → after m x rr wanted item r ≡ walk_into x rr wanted item r below
 
-either : (b : Bool) (end a c : Reached) → (b ≡ true → end ≡ a) → (b ≡ false → end ≡ c) → end ≡ (if b then a else c)
+either : (b : Bool) (end a c : WalkEnd) → (b ≡ true → end ≡ a) → (b ≡ false → end ≡ c) → end ≡ (if b then a else c)
 either true end a c is isnt = is refl
 either false end a c is isnt = isnt refl
 
-same_else : (b : Bool) (first a c : Reached) → (b ≡ false → a ≡ c) → (if b then first else a) ≡ (if b then first else c)
+same_else : (b : Bool) (first a c : WalkEnd) → (b ≡ false → a ≡ c) → (if b then first else a) ≡ (if b then first else c)
 same_else true first a c h = refl
 same_else false first a c h = h refl
 
@@ -84,7 +84,7 @@ at_device m laws x rr wanted id item r same =
     rw (none_of_device (tables_of m) item id (is_laid m laws.sound).negative (sym (ap (λ (i : ItemId). i.0) same))) refl
 
 at_bucket : (m : Map) → HasLaws m → (x : ℕ) (rr : BucketView → ℕ) (wanted : ℕ) (b : Bucket) → Contains m.buckets b → (item : ItemId) (r : ℕ) → b.id ≡ item
-    → (end : Reached) → ((k : ℕ) → bucket_numbered (tables_of m) b.id ≡ Some k → by_number m x rr wanted k ≡ end)
+    → (end : WalkEnd) → ((k : ℕ) → bucket_numbered (tables_of m) b.id ≡ Some k → by_number m x rr wanted k ≡ end)
     → after m x rr wanted item r ≡ (if b.kind_of == wanted then Found item r else end)
 at_bucket m laws x rr wanted b there item r same end ends =
     let at = stands_at m laws.once b there in

@@ -4,7 +4,7 @@ ghost use Rattle.std.specs.Prelude.{◌≡◌, ◌≤◌, ◌+◌, ◌*◌, ◌+
 ghost use Rattle.std.specs.List.{sum_by};
 ghost use Rattle.std.specs.Map.{values_of};
 ghost use Rattle.crush_map.specs.Map.{Map};
-ghost use Rattle.tenant_cache.specs.Kept.{Kept, Ready, bytes_kept, kept_at};
+ghost use Rattle.tenant_cache.specs.Kept.{KeptTenants, ReadyTenant, bytes_kept, kept_at};
 ghost use Rattle.tenant_core.specs.tenant_state.specs.Size.{pool_size, size, version_size};
 ghost use Rattle.tenant_core.specs.tenant_state.specs.State.{Inventory, TenantPool};
 ghost use Rattle.crush_laws.specs.Sizes.{item_count, pair_count, step_count, text_bytes};
@@ -22,6 +22,6 @@ pub fn what_a_tenant_has_takes_the_bytes_of_its_texts()
 /// All kept inventories together take at least the size of each one, and at least the bytes of
 /// their texts.
 pub fn what_is_kept_takes_the_bytes_of_its_texts()
-    ensures each { (kept : Kept) (name : List ℕ) (ready : Ready) → kept_at kept name ≡ Some ready → size ready.inventory ≤ bytes_kept kept }
-    ensures texts { (kept : Kept) → sum_by (λ ready. text_bytes ready.inventory) (values_of kept.entries) ≤ bytes_kept kept }
+    ensures each { (kept : KeptTenants) (name : List ℕ) (ready : ReadyTenant) → kept_at kept name ≡ Some ready → size ready.inventory ≤ bytes_kept kept }
+    ensures texts { (kept : KeptTenants) → sum_by (λ ready. text_bytes ready.inventory) (values_of kept.entries) ≤ bytes_kept kept }
 {}

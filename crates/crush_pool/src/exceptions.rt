@@ -261,11 +261,11 @@ fn apply(tables: &Tables, weights: &Weights, pair: Pair, slots: &mut [Slot])
 /// What a rule answered for a group, with the exceptions of that group: at most `SIZE_LIMIT` slots,
 /// in an array of its own. Contracts see the list of them.
 #[derive(Drop)]
-pub(crate) struct Excepted {
+pub(crate) struct ExceptedSlots {
     slots: ArrayVec<Slot, SIZE_LIMIT>,
 }
 
-impl Model for Excepted {
+impl Model for ExceptedSlots {
     ghost use Rattle.std.specs.Prelude.{List};
     ghost use Rattle.crush_choose.specs.Marks.{Slot};
 
@@ -274,7 +274,7 @@ impl Model for Excepted {
     ghost view = { λ a. a.slots.items };
 }
 
-impl Excepted {
+impl ExceptedSlots {
     /// Applies the pairs of a group to a copy of a rule's answer for it. Allocates nothing.
     pub(crate) fn new(
         tables: &Tables,
@@ -282,7 +282,7 @@ impl Excepted {
         exceptions: &Exceptions,
         group: u32,
         raw: &[Slot],
-    ) -> Excepted
+    ) -> ExceptedSlots
         requires { length raw.now ≤ SIZE_LIMIT }
         ensures { result ≡ spec.excepted tables.now weights.now exceptions.now group raw.now }
     {
@@ -291,7 +291,7 @@ impl Excepted {
             slots.push(*slot);
         }
         exceptions.apply_all(tables, weights, group, slots.as_mut_slice());
-        Excepted { slots }
+        ExceptedSlots { slots }
     }
 
     /// Returns the slots, in order.

@@ -12,7 +12,7 @@ ghost use Rattle.crush_pool.specs.Placements as spec;
 ghost use Rattle.crush_pool.specs.Pools.{seed_of};
 ghost use Rattle.crush_pool.specs.declared.states.DeviceState.{DeviceState};
 
-use crate::exceptions::{Excepted, Exceptions};
+use crate::exceptions::{ExceptedSlots, Exceptions};
 use crate::pool::{Pool, PoolFault};
 use crate::states::DeviceStates;
 use crush_bucket::{Scratch, Tables};
@@ -148,7 +148,13 @@ impl<'a> Placing<'a> {
     {
         let erasure = self.pool.parts().erasure;
         if self.exceptions.concern(group) {
-            let changed = Excepted::new(self.tables, self.weights, self.exceptions, group, raw);
+            let changed = ExceptedSlots::new(
+                self.tables,
+                self.weights,
+                self.exceptions,
+                group,
+                raw,
+            );
             set_up_of(up, erasure, self.flags, changed.items())
         } else {
             set_up_of(up, erasure, self.flags, raw)

@@ -111,11 +111,11 @@ pub(crate) fn is_traced(
 /// Whether a device is in the trace for each place of a pool's groups, or nothing where each group
 /// has a place of its own.
 #[derive(Drop)]
-pub(crate) struct Traced {
+pub(crate) struct TraceMarks {
     found: Vec<bool>,
 }
 
-impl Traced {
+impl TraceMarks {
     ghost use Rattle.std.specs.Prelude.{◌≡◌, IfOk, IfSome, ℕ};
     ghost use Rattle.crush_map.specs.Faults.{has_number};
     ghost use Rattle.crush_bucket.specs.Tables.{scratch_of, tables_of};
@@ -130,7 +130,7 @@ impl Traced {
         scratch: &mut Scratch,
         out: &mut Out,
         device: u32,
-    ) -> Result<Traced, AllocError>
+    ) -> Result<TraceMarks, AllocError>
         requires fits { scratch.old ≡ scratch_of (tables_of placer.now.map) }
         ensures traced { IfOk result (λ t. AreTraced placer.now device t) }
         ensures fits { scratch.new ≡ scratch_of (tables_of placer.now.map) }
@@ -143,7 +143,7 @@ impl Traced {
                 found.push(is_traced(placer, scratch, out, device, place))?;
             }
         }
-        Ok(Traced { found })
+        Ok(TraceMarks { found })
     }
 
     /// Returns whether the device is in the trace of a group, if that is stored: it is the trace

@@ -6,7 +6,7 @@ ghost use Rattle.crush_report.specs.OnMaps.{touches_on};
 ghost use Rattle.crush_report.specs.Private.Places.{AreTraced};
 ghost use Rattle.crush_report.specs.Reports.{impact};
 
-use crate::answers::{Traced, is_traced};
+use crate::answers::{TraceMarks, is_traced};
 use crush_bucket::Scratch;
 use crush_choose::Out;
 use crush_map::Listed;
@@ -17,7 +17,7 @@ use std::alloc::{AllocError, Global};
 /// The rule runs only where no pair does and the trace for the group's place isn't stored.
 fn is_touched(
     placer: &Placer,
-    traced: &Traced,
+    traced: &TraceMarks,
     scratch: &mut Scratch,
     out: &mut Out,
     device: u32,
@@ -48,7 +48,7 @@ pub fn impact_with(alloc: Global, placer: &Placer, device: u32) -> Result<Listed
 {
     let mut scratch = Scratch::for_many(alloc, placer.tables())?;
     let mut out = Out::build(alloc)?;
-    let traced = Traced::build(alloc, placer, &mut scratch, &mut out, device)?;
+    let traced = TraceMarks::build(alloc, placer, &mut scratch, &mut out, device)?;
     let mut found = Vec::new(alloc);
     for group in 0..placer.pool_parts().pg_num {
         if is_touched(placer, &traced, &mut scratch, &mut out, device, group) {

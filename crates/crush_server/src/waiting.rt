@@ -10,7 +10,7 @@ const MESSAGE_SECONDS: u64 = 30;
 
 /// How long the server has waited for a client so far.
 #[derive(Clone, Copy)]
-struct Waited {
+struct WaitTime {
     time: Duration,
     /// Whether something was written since the last read.
     replying: bool,
@@ -19,7 +19,7 @@ struct Waited {
 }
 
 /// The measure before the first read or write.
-const NOTHING: Waited = Waited {
+const NOTHING: WaitTime = WaitTime {
     time: Duration::ZERO,
     replying: false,
     is_unknown: false,
@@ -30,7 +30,7 @@ const NOTHING: Waited = Waited {
 #[derive(Drop)]
 pub struct Waiting<'a, C: Clock> {
     clock: &'a C,
-    waited: Cell<Waited>,
+    waited: Cell<WaitTime>,
 }
 
 impl<'a, C: Clock> Waiting<'a, C> {

@@ -58,7 +58,7 @@ fn bucket_names<'a>(
 
 /// The parts of a map, and the names of its items by id. Contracts see the map.
 #[derive(Drop)]
-pub(crate) struct Names<'a> {
+pub(crate) struct NamesById<'a> {
     pub(crate) types: &'a [TypeName],
     pub(crate) devices: &'a [Device],
     pub(crate) buckets: &'a [Bucket],
@@ -68,7 +68,7 @@ pub(crate) struct Names<'a> {
     by_bucket: BTreeMap<i32, &'a str>,
 }
 
-impl<'a> Model for Names<'a> {
+impl<'a> Model for NamesById<'a> {
     ghost use Rattle.std.specs.Prelude.{◌≡◌, ℕ, ℤ, []};
     ghost use Rattle.std.specs.BTreeMap.{get};
     ghost use Rattle.std.specs.Option.{option_map_or};
@@ -83,14 +83,14 @@ impl<'a> Model for Names<'a> {
     ghost invariant = { λ a. ((id : ℕ) → option_map_or (λ name. name.now) (get nat_cmp a.by_device id) [] ≡ spec.device_name a.devices.now id) × ((id : ℤ) → option_map_or (λ name. name.now) (get int_cmp a.by_bucket id) [] ≡ spec.bucket_name a.buckets.now id) };
 }
 
-impl<'a> Names<'a> {
+impl<'a> NamesById<'a> {
     /// Reads the parts of a map, and makes the tables of its names.
     pub(crate) fn new(alloc: Global, map: &'a CrushMap) -> Result<Self, AllocError>
         ensures same { IfOk result (λ names. names ≡ map.now) }
         ensures valid { IsMap map.now }
     {
         let (devices, buckets) = (map.devices(), map.buckets());
-        Ok(Names {
+        Ok(NamesById {
             types: map.types(),
             devices,
             buckets,

@@ -7,7 +7,7 @@ ghost use Rattle.crush_map.specs.Map.{IsMap};
 ghost use Rattle.crush_map.specs.crush_types.specs.Kinds.{is_straw2};
 ghost use Rattle.crush_writing.specs.Canonical as spec;
 
-use crate::lookup::Names;
+use crate::lookup::NamesById;
 use crush_map::{
     Bucket, CrushMap, Device, ItemId, Rule, Step, Tunables, TypeName, Weight, straw2_mark,
     weight_text,
@@ -118,7 +118,7 @@ fn write_types(alloc: Global, out: &mut Vec<u8>, types: &[TypeName]) -> Result<(
 fn write_item(
     alloc: Global,
     out: &mut Vec<u8>,
-    names: &Names<'_>,
+    names: &NamesById<'_>,
     id: ItemId,
     weight: Weight,
 ) -> Result<(), AllocError>
@@ -137,7 +137,7 @@ fn write_item(
 fn write_items(
     alloc: Global,
     out: &mut Vec<u8>,
-    names: &Names<'_>,
+    names: &NamesById<'_>,
     items: &[(ItemId, Weight)],
 ) -> Result<(), AllocError>
     ensures { OnOk result (out.new.items ≡ out.old.items ++ flat_map (spec.item_line names.now) items.now) }
@@ -153,7 +153,7 @@ fn write_items(
 fn write_bucket(
     alloc: Global,
     out: &mut Vec<u8>,
-    names: &Names<'_>,
+    names: &NamesById<'_>,
     bucket: &Bucket,
 ) -> Result<(), AllocError>
     ensures { OnOk result (out.new.items ≡ out.old.items ++ spec.bucket_lines names.now bucket.now) }
@@ -170,7 +170,7 @@ fn write_bucket(
 }
 
 /// Writes the lines of all buckets.
-fn write_buckets(alloc: Global, out: &mut Vec<u8>, names: &Names<'_>) -> Result<(), AllocError>
+fn write_buckets(alloc: Global, out: &mut Vec<u8>, names: &NamesById<'_>) -> Result<(), AllocError>
     ensures { OnOk result (out.new.items ≡ out.old.items ++ flat_map (spec.bucket_lines names.now) names.now.buckets) }
 {
     let buckets = names.buckets;
@@ -223,7 +223,7 @@ fn write_choose_step<'a>(
 fn write_step(
     alloc: Global,
     out: &mut Vec<u8>,
-    names: &Names<'_>,
+    names: &NamesById<'_>,
     step: Step,
 ) -> Result<(), AllocError>
     ensures { OnOk result (out.new.items ≡ out.old.items ++ spec.step_line names.now step) }
@@ -256,7 +256,7 @@ fn write_step(
 fn write_steps(
     alloc: Global,
     out: &mut Vec<u8>,
-    names: &Names<'_>,
+    names: &NamesById<'_>,
     steps: &[Step],
 ) -> Result<(), AllocError>
     ensures { OnOk result (out.new.items ≡ out.old.items ++ flat_map (spec.step_line names.now) steps.now) }
@@ -279,7 +279,7 @@ fn erasure_text(erasure: bool) -> &'static str
 fn write_rule(
     alloc: Global,
     out: &mut Vec<u8>,
-    names: &Names<'_>,
+    names: &NamesById<'_>,
     rule: &Rule,
 ) -> Result<(), AllocError>
     ensures { OnOk result (out.new.items ≡ out.old.items ++ spec.rule_lines names.now rule.now) }
@@ -294,7 +294,7 @@ fn write_rule(
 }
 
 /// Writes the lines of all rules.
-fn write_rules(alloc: Global, out: &mut Vec<u8>, names: &Names<'_>) -> Result<(), AllocError>
+fn write_rules(alloc: Global, out: &mut Vec<u8>, names: &NamesById<'_>) -> Result<(), AllocError>
     ensures { OnOk result (out.new.items ≡ out.old.items ++ flat_map (spec.rule_lines names.now) names.now.rules) }
 {
     let rules = names.rules;
@@ -314,7 +314,7 @@ fn has_straw2(buckets: &[Bucket]) -> bool
 /// Begins the text of a map: with the mark by which a text asks for straw2, if a bucket needs it,
 /// and the first heading.
 #[tactic(auto, unfolding(crate::specs::Canonical::mark_line))]
-fn begin_map(alloc: Global, names: &Names<'_>) -> Result<Vec<u8>, AllocError>
+fn begin_map(alloc: Global, names: &NamesById<'_>) -> Result<Vec<u8>, AllocError>
     ensures { IfOk result (λ out. out.items ≡ spec.mark_line names.now ++ codes "# begin crush map\n") }
 {
     let mut out = Vec::new(alloc);
@@ -333,7 +333,7 @@ pub fn write_map(alloc: Global, map: &CrushMap) -> Result<Vec<u8>, AllocError>
     ensures text { IfOk result (λ text. text.items ≡ spec.canonical map.now) }
     ensures valid { IsMap map.now }
 {
-    let names = Names::new(alloc, map)?;
+    let names = NamesById::new(alloc, map)?;
     let mut out = begin_map(alloc, &names)?;
     write_tunables(alloc, &mut out, names.tunables)?;
     out.extend_from_slice(b"\n# devices\n")?;

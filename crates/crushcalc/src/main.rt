@@ -14,7 +14,7 @@ use std::num::NonZeroUsize;
 use std::process::ExitCode;
 use std::rt::{Files, HostRuntime};
 use std::{env, io};
-use tenant_files::{FileFault, Refused};
+use tenant_files::{FileFault, FileRefusal};
 
 /// Why the program stops before its command is done, or has none.
 enum Stop {
@@ -60,8 +60,8 @@ impl From<FileFault> for Stop {
     }
 }
 
-impl<D: Disk + Drop> From<Refused<D>> for Stop {
-    fn from(refused: Refused<D>) -> Stop {
+impl<D: Disk + Drop> From<FileRefusal<D>> for Stop {
+    fn from(refused: FileRefusal<D>) -> Stop {
         Stop::from(refused.fault)
     }
 }

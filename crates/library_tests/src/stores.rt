@@ -12,7 +12,8 @@ use std::process::Abort;
 use std::test::Fail;
 use tenant_core::{Change, TenantState};
 use tenant_store::{
-    Exception, PoolRow, ReceiptRow, State, Store, StoreFault, TenantStore, VersionRow, from_rows,
+    ExceptionRow, PoolRow, ReceiptRow, StateRow, Store, StoreFault, TenantStore, VersionRow,
+    from_rows,
 };
 
 /// Creates the tenant `name`, which is absent, makes its first change, and removes it where
@@ -92,10 +93,10 @@ fn tenant_store_has_its_calls(rt: HostRuntime) -> Result<(), Fail> {
 fn state_of(
     alloc: Global,
     epoch: i64,
-    exceptions: &[Exception],
+    exceptions: &[ExceptionRow],
 ) -> Result<Option<TenantState>, AllocError> {
     let versions: Vec<VersionRow> = Vec::new(alloc);
-    let states: Vec<State> = Vec::new(alloc);
+    let states: Vec<StateRow> = Vec::new(alloc);
     let pools: Vec<PoolRow> = Vec::new(alloc);
     let receipts: Vec<ReceiptRow> = Vec::new(alloc);
     from_rows(alloc, epoch, versions, states, pools, exceptions, receipts)
@@ -108,7 +109,7 @@ fn states_come_from_rows(rt: HostRuntime) -> Result<(), Fail> {
     let alloc = rt.alloc();
     let made = state_of(alloc, 0, &[])?;
     assert!(rt; matches!(&made, Some(state) if state.inventory().epoch() == 0));
-    let alone = Exception {
+    let alone = ExceptionRow {
         pool: 1,
         place: 0,
         group: 0,

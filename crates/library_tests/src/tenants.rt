@@ -8,7 +8,7 @@ use common_tests::imports::FIRST;
 use std::alloc::Global;
 use std::test::Fail;
 use tenant_core::{
-    Action, CallParts, Change, Command, Inventory, Made, Problem, Refusal, Reply, Routes,
+    Action, CallParts, Change, Command, Inventory, Problem, Product, Refusal, Reply, Routes,
     TenantState, answer, apply, apply_to, create, laws, read_request, refused,
 };
 
@@ -89,7 +89,7 @@ fn picked(alloc: Global, inventory: &Inventory) -> Result<Reply, Fail> {
 fn tenant_core_has_its_calls(rt: HostRuntime) -> Result<(), Fail> {
     let alloc = rt.alloc();
     let change = first_change(alloc)?;
-    assert!(rt; matches!(&change.made, Made::Version(_)));
+    assert!(rt; matches!(&change.made, Product::Version(_)));
     let state = create(alloc)?.after(alloc, &change)?;
     assert_same(&rt, &state.inventory().newest(), &1);
     let fresh = create(alloc)?;

@@ -9,7 +9,7 @@ use sqlite_disk::{Disk, Files};
 use std::alloc::Global;
 use std::num::NonZeroUsize;
 use std::process::Abort;
-use tenant_cache::{Bytes, CachedStore};
+use tenant_cache::{ByteBound, CachedStore};
 use tenant_core::{Call, Reply, Routes, TenantStore};
 use tenant_files::close_store;
 use tenant_service::{Service, SessionEnd};
@@ -51,7 +51,7 @@ fn serve_ready<T: TenantStore + Drop>(
 ) -> (SessionEnd, T)
     requires works { T.latched below ≡ false }
 {
-    let ready = match CachedStore::<_, Bytes<READY>>::over(alloc, below, NonZeroUsize::MIN) {
+    let ready = match CachedStore::<_, ByteBound<READY>>::over(alloc, below, NonZeroUsize::MIN) {
         Ok(ready) => ready,
         Err(_) => rt.abort(),
     };

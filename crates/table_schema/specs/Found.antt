@@ -13,8 +13,8 @@ use Rattle.table_schema.specs.declared.find.Tenant.{Tenant}
 use Rattle.table_schema.specs.declared.rows.VersionRow.{VersionRow}
 use Rattle.table_schema.specs.declared.rows.PoolRow.{PoolRow}
 use Rattle.table_schema.specs.declared.rows.ReceiptRow.{ReceiptRow}
-use Rattle.table_schema.specs.declared.values.Exception.{Exception}
-use Rattle.table_schema.specs.declared.values.State.{State}
+use Rattle.table_schema.specs.declared.values.ExceptionRow.{ExceptionRow}
+use Rattle.table_schema.specs.declared.values.StateRow.{StateRow}
 
 -- the number and the epoch of a row of tenants
 abbrev pub head_of : Row → Row
@@ -60,11 +60,11 @@ IsVersionRow row = (version : ℤ) × (text : List ℕ) × IsUtf8 text × (row �
 
 -- the values are those of a device's state
 abbrev pub IsStateRow : Row → Type 0
-IsStateRow row = (state : State) × (row ≡ state_row state)
+IsStateRow row = (state : StateRow) × (row ≡ state_row state)
 
 -- the values are those of an exception
 abbrev pub IsExceptionRow : Row → Type 0
-IsExceptionRow row = (e : Exception) × (row ≡ exception_row e)
+IsExceptionRow row = (e : ExceptionRow) × (row ≡ exception_row e)
 
 -- the values of a row of pools that was read
 abbrev pub pool_values : PoolRow → Row

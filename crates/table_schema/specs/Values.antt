@@ -2,18 +2,18 @@
 use Rattle.std.specs.Prelude.{ℕ, ℤ, List, [], ◌∷◌}
 use Rattle.sqlite_value.specs.declared.value.Value.TheVariants.{Int, Text as Words}
 use Rattle.sqlite_value.specs.Order.{Row}
-use Rattle.table_schema.specs.declared.values.Exception.{Exception}
-use Rattle.table_schema.specs.declared.values.Pool.{Pool}
-use Rattle.table_schema.specs.declared.values.Receipt.{Receipt}
-use Rattle.table_schema.specs.declared.values.State.{State}
+use Rattle.table_schema.specs.declared.values.ExceptionRow.{ExceptionRow}
+use Rattle.table_schema.specs.declared.values.PoolValues.{PoolValues}
+use Rattle.table_schema.specs.declared.values.ReceiptValues.{ReceiptValues}
+use Rattle.table_schema.specs.declared.values.StateRow.{StateRow}
 
 abbrev pub version_row : ℤ → List ℕ → Row
 version_row version text = Int version ∷ Words text ∷ []
 
-abbrev pub state_row : State → Row
+abbrev pub state_row : StateRow → Row
 state_row state = Int state.device ∷ Int state.reweight ∷ Int state.up ∷ []
 
-abbrev pub pool_row : Pool → Row
+abbrev pub pool_row : PoolValues → Row
 pool_row pool =
     Int pool.id
     ∷ Words pool.name.now
@@ -26,9 +26,9 @@ pool_row pool =
     ∷ Int pool.pairs
     ∷ []
 
-abbrev pub exception_row : Exception → Row
+abbrev pub exception_row : ExceptionRow → Row
 exception_row e = Int e.pool ∷ Int e.place ∷ Int e.group ∷ Int e.from ∷ Int e.to ∷ []
 
-abbrev pub receipt_row : Receipt → Row
+abbrev pub receipt_row : ReceiptValues → Row
 receipt_row receipt =
     Words receipt.request.now ∷ Words receipt.path.now ∷ Words receipt.body.now ∷ Int receipt.status ∷ Words receipt.reply.now ∷ []

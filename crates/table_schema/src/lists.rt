@@ -12,7 +12,7 @@ ghost use Rattle.table_schema.specs.Reads.{Reads};
 use crate::ask::ask;
 use crate::fault::ReadFault;
 use crate::read::{one_of, rising_in};
-use crate::rows::{Listed, ReceiptRow};
+use crate::rows::{ListedRow, ReceiptRow};
 use sqlite::types::ValueRef;
 use sqlite::{Alter, Connection};
 use std::alloc::Global;
@@ -21,7 +21,7 @@ use std::alloc::Global;
 ///
 /// `Err(ReadFault::Damaged)`: a key occurs twice, or a row is none that this service writes.
 /// `Err(ReadFault::NoMemory)`: nothing is changed.
-pub fn list_of<T: Listed + Drop, S: Alter>(
+pub fn list_of<T: ListedRow + Drop, S: Alter>(
     alloc: Global,
     conn: &mut Connection<S>,
     id: i64,

@@ -8,7 +8,7 @@ ghost use Rattle.sqlite_schema.specs.declared.schema.Table as schema;
 ghost use Rattle.table_schema.specs.Asked.{Selects};
 
 use crate::fault::ReadFault;
-use crate::values::{Exception, State};
+use crate::values::{ExceptionRow, StateRow};
 use sqlite::{Error, ErrorCode, Row};
 use std::alloc::AllocError;
 
@@ -122,7 +122,7 @@ pub trait TenantRow: Sized {
 }
 
 /// A row that a tenant has a list of, which one query reads.
-pub trait Listed: TenantRow {
+pub trait ListedRow: TenantRow {
     /// The table with the rows.
     ghost table: { schema.Table };
 
@@ -158,7 +158,7 @@ impl TenantRow for VersionRow {
     ghost then = { below_then };
 }
 
-impl Listed for VersionRow {
+impl ListedRow for VersionRow {
     ghost use Rattle.table_schema.specs.Layout.{maps_table};
 
     ghost table = { maps_table };
@@ -168,7 +168,7 @@ impl Listed for VersionRow {
     }
 }
 
-impl TenantRow for State {
+impl TenantRow for StateRow {
     ghost use Rattle.table_schema.specs.Values.{state_row};
     ghost use Rattle.table_schema.specs.Found.{IsStateRow, IsBelow};
     ghost use Rattle.table_schema.specs.Orders.{below_then};
@@ -179,25 +179,25 @@ impl TenantRow for State {
 
     ghost before = { IsBelow };
 
-    fn from_values(row: &Row) -> Result<State, ReadFault> {
+    fn from_values(row: &Row) -> Result<StateRow, ReadFault> {
         if row.column_count() != 3 {
             return Err(ReadFault::Damaged);
         }
-        Ok(State {
+        Ok(StateRow {
             device: int(row, 0)?,
             reweight: int(row, 1)?,
             up: int(row, 2)?,
         })
     }
 
-    fn is_below(&self, other: &State) -> bool {
+    fn is_below(&self, other: &StateRow) -> bool {
         is_less(self.device, other.device)
     }
 
     ghost then = { below_then };
 }
 
-impl Listed for State {
+impl ListedRow for StateRow {
     ghost use Rattle.table_schema.specs.Layout.{devices_table};
 
     ghost table = { devices_table };
@@ -241,7 +241,7 @@ impl TenantRow for PoolRow {
     ghost then = { below_then };
 }
 
-impl Listed for PoolRow {
+impl ListedRow for PoolRow {
     ghost use Rattle.table_schema.specs.Layout.{pools_table};
 
     ghost table = { pools_table };
@@ -281,7 +281,7 @@ impl TenantRow for ReceiptRow {
     ghost then = { below_then };
 }
 
-impl TenantRow for Exception {
+impl TenantRow for ExceptionRow {
     ghost use Rattle.table_schema.specs.Values.{exception_row};
     ghost use Rattle.table_schema.specs.Found.{IsExceptionRow, Precedes};
     ghost use Rattle.table_schema.specs.Orders.{precedes_then};
@@ -292,11 +292,11 @@ impl TenantRow for Exception {
 
     ghost before = { Precedes };
 
-    fn from_values(row: &Row) -> Result<Exception, ReadFault> {
+    fn from_values(row: &Row) -> Result<ExceptionRow, ReadFault> {
         if row.column_count() != 5 {
             return Err(ReadFault::Damaged);
         }
-        Ok(Exception {
+        Ok(ExceptionRow {
             pool: int(row, 0)?,
             place: int(row, 1)?,
             group: int(row, 2)?,
@@ -306,7 +306,7 @@ impl TenantRow for Exception {
     }
 
     /// Exceptions are ordered by pool and place.
-    fn is_below(&self, other: &Exception) -> bool {
+    fn is_below(&self, other: &ExceptionRow) -> bool {
         if self.pool == other.pool {
             self.place < other.place
         } else {
@@ -317,7 +317,7 @@ impl TenantRow for Exception {
     ghost then = { precedes_then };
 }
 
-impl Listed for Exception {
+impl ListedRow for ExceptionRow {
     ghost use Rattle.table_schema.specs.Layout.{exceptions_table};
 
     ghost table = { exceptions_table };

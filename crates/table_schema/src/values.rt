@@ -2,7 +2,7 @@
 
 /// A row of `devices`, without the tenant's number.
 #[derive(Clone, Copy)]
-pub struct State {
+pub struct StateRow {
     pub device: i64,
     pub reweight: i64,
     pub up: i64,
@@ -10,7 +10,7 @@ pub struct State {
 
 /// A row of `pools_2`, without the tenant's number. `pairs` is the number of the pool's exceptions.
 #[derive(Clone, Copy)]
-pub struct Pool<'a> {
+pub struct PoolValues<'a> {
     pub id: i64,
     pub name: &'a str,
     pub erasure: i64,
@@ -25,7 +25,7 @@ pub struct Pool<'a> {
 /// A row of `exceptions`, without the tenant's number: in the group of the pool the device `to`
 /// takes the place of `from`. `place` is its place in the pool's list, from 0.
 #[derive(Clone, Copy)]
-pub struct Exception {
+pub struct ExceptionRow {
     pub pool: i64,
     pub place: i64,
     pub group: i64,
@@ -35,7 +35,7 @@ pub struct Exception {
 
 /// A row of `receipts`, without the tenant's number.
 #[derive(Clone, Copy)]
-pub struct Receipt<'a> {
+pub struct ReceiptValues<'a> {
     pub request: &'a str,
     pub path: &'a str,
     pub body: &'a str,

@@ -22,10 +22,10 @@ use Rattle.tenant_reports.specs.Moves as moves
 use Rattle.tenant_core.specs.tenant_resources.specs.Groups as groups
 use Rattle.tenant_state.specs.State.{Inventory, TenantPool, if_there, newest, on_newest, on_version, pool, version}
 use Rattle.tenant_core.specs.Cached.{Asks, IsCachedFor, Says, answer_on}
-use Rattle.tenant_core.specs.declared.cached.Asked.{Asked}
-use Rattle.tenant_core.specs.declared.cached.Asked.TheVariants as asked
-use Rattle.tenant_core.specs.declared.cached.Cached.{Cached}
-use Rattle.tenant_core.specs.declared.cached.Cached.TheVariants.{Placed, Located, Touched, Moved}
+use Rattle.tenant_core.specs.declared.cached.Question.{Question}
+use Rattle.tenant_core.specs.declared.cached.Question.TheVariants as asked
+use Rattle.tenant_core.specs.declared.cached.CachedAnswer.{CachedAnswer}
+use Rattle.tenant_core.specs.declared.cached.CachedAnswer.TheVariants.{Placed, Located, Touched, Moved}
 use Rattle.tenant_core.specs.declared.queries.Query.{Query}
 
 -- ---- the pool of a query
@@ -43,7 +43,7 @@ pub own_pool : (id : ℕ) (i : Inventory) (p : TenantPool) → pool id i ≡ Som
 own_pool id i p h = subst (λ n. pool n i ≡ Some p) (sym (eqb-true p.parts.id id (found-passes (λ q. q.parts.id == id) i.pools p h))) h
 
 -- what says the answer to what is asked of the pool says that to the query
-pub is_for : (query : Query) (id : ℕ) (i : Inventory) (p : TenantPool) (it : Asked) (c : Cached) → Asks query id it → pool id i ≡ Some p → Says i c (answer_on i it (Some p)) → IsCachedFor query i c
+pub is_for : (query : Query) (id : ℕ) (i : Inventory) (p : TenantPool) (it : Question) (c : CachedAnswer) → Asks query id it → pool id i ≡ Some p → Says i c (answer_on i it (Some p)) → IsCachedFor query i c
 is_for query id i p it c asks there says = (says.0, asks i ∙ (ap (answer_on i it) there ∙ says.1))
 
 -- ---- a pool on the newest version

@@ -13,9 +13,9 @@ pub trait Bound {
 }
 
 /// The type that stands for `N` bytes.
-pub struct Bytes<const N: u64>;
+pub struct ByteBound<const N: u64>;
 
-impl<const N: u64> Bound for Bytes<N> {
+impl<const N: u64> Bound for ByteBound<N> {
     ghost bytes = { N };
 
     fn bytes() -> u64 {

@@ -4,7 +4,7 @@ ghost use Rattle.std.specs.Prelude.{◌≡◌, ◌≤◌, ◌<◌, ◌-◌, ◌^
 ghost use Rattle.tenant_cache.specs.Bytes.{bytes_in, bytes_of};
 
 use crate::bound::Bound;
-use crate::ready::Ready;
+use crate::ready::ReadyTenant;
 use lru::LruCache;
 use std::alloc::{AllocError, Global};
 use std::marker::{Model, PhantomData};
@@ -13,24 +13,24 @@ use std::rc::Rc;
 /// The greatest size in bytes of one entry, and of several together. No memory is larger.
 const GREATEST_SIZE: u64 = u64::MAX / 2;
 
-type ByName = LruCache<String, Rc<Ready>>;
+type ByName = LruCache<String, Rc<ReadyTenant>>;
 
 /// What tenants have by name: one entry, or several whose sizes together are at most the bound `B`.
 /// The entry that was used least recently is forgotten first. Contracts say what a name may still
 /// have; only of a name that is put again do they say that it has it.
 #[derive(Drop)]
-pub struct Kept<B: Bound> {
+pub struct KeptTenants<B: Bound> {
     by_name: ByName,
     bytes: u64,
     bound: PhantomData<B>,
 }
 
-impl<B: Bound> Model for Kept<B> {
+impl<B: Bound> Model for KeptTenants<B> {
     ghost use Rattle.std.specs.Prelude.{◌≡◌, ◌≤◌, ◌<◌, ◌^◌, length, map, string_bytes};
     ghost use Rattle.tenant_cache.specs.Bytes.{bytes_in};
-    ghost use Rattle.tenant_cache.specs.Kept.{Kept};
+    ghost use Rattle.tenant_cache.specs.Kept.{KeptTenants};
 
-    ghost Value = { Kept };
+    ghost Value = { KeptTenants };
 
     ghost view = { λ a. record { entries = map (λ e. (string_bytes e.0, e.1.value)) a.by_name.entries } };
 
@@ -41,7 +41,7 @@ impl<B: Bound> Model for Kept<B> {
     } };
 }
 
-impl<B: Bound> Kept<B> {
+impl<B: Bound> KeptTenants<B> {
     ghost use Rattle.std.specs.Prelude.{◌≡◌, ◌≤◌, ◌<◌, ◌≢◌, ℕ, [], List, Option, Some, None, IfOk, IsSome, is_some, length, option_map, string_bytes};
     ghost use Rattle.tenant_cache.specs.Kept as spec;
     ghost use Rattle.tenant_cache.specs.Kept.{kept_at, bytes_kept, Updates};
@@ -53,7 +53,7 @@ impl<B: Bound> Kept<B> {
     pub fn new(alloc: Global) -> Result<Self, AllocError>
         ensures { IfOk result (λ kept. kept ≡ record { entries = [] }) }
     {
-        Ok(Kept {
+        Ok(KeptTenants {
             by_name: LruCache::unbounded(alloc)?,
             bytes: 0,
             bound: PhantomData,
@@ -70,7 +70,7 @@ impl<B: Bound> Kept<B> {
 
     /// Returns what is kept of a name, which is then the one used last. `Err(AllocError)`: it
     /// can't be shared; of each name the same is kept as before, or nothing.
-    pub fn get(&mut self, name: &str) -> Result<Option<Rc<Ready>>, AllocError>
+    pub fn get(&mut self, name: &str) -> Result<Option<Rc<ReadyTenant>>, AllocError>
         ensures found { IfOk result (λ found. option_map (λ r. r.value) found ≡ kept_at self.old name.now) }
         ensures same { (u : List ℕ) (r : _) → kept_at self.new u ≡ Some r → kept_at self.old u ≡ Some r }
     {
@@ -102,7 +102,7 @@ impl<B: Bound> Kept<B> {
     /// Keeps what a name has, in place of what was kept of it, and forgets other names where they
     /// have no room beside it. It isn't kept where an allocation fails, or where its size is above
     /// 2^63 - 1 bytes; for a name that is kept already nothing is allocated.
-    pub fn put(&mut self, name: String, ready: Rc<Ready>)
+    pub fn put(&mut self, name: String, ready: Rc<ReadyTenant>)
         ensures only { Updates (string_bytes name) (Some ready.value) self.old self.new }
         ensures stays { IsSome (kept_at self.old (string_bytes name)) → size ready.value.inventory ≤ GREATEST_SIZE → kept_at self.new (string_bytes name) ≡ Some ready.value }
     {
@@ -128,7 +128,7 @@ impl<B: Bound> Kept<B> {
 }
 
 /// Returns the bytes that an entry takes, or 0 if there is none.
-fn size_of(entry: &Option<(String, Rc<Ready>)>) -> u64
+fn size_of(entry: &Option<(String, Rc<ReadyTenant>)>) -> u64
     ensures { result ≡ min (bytes_of entry.now) (2 ^ 64 - 1) }
 {
     match entry {

@@ -6,7 +6,7 @@ ghost use Rattle.crush_map.specs.Map.{IsMap};
 ghost use Rattle.crush_pool.specs.Placers.{PoolOnMap};
 
 use crate::bound::Bound;
-use crate::kept::Kept;
+use crate::kept::KeptTenants;
 use crush_map::Listed;
 use crush_pool::{Content, Placer};
 use crush_report::{MoveRow, Touches, UpLists, moves_from};
@@ -165,7 +165,10 @@ pub(crate) fn is_of_tenant<G: OfGroups>(last: &Option<Last<G>>, name: &str) -> b
 }
 
 /// Returns whether a value is kept that was found for a tenant of which nothing is kept by name.
-pub(crate) fn is_left<G: OfGroups, B: Bound>(last: &Option<Last<G>>, kept: &Kept<B>) -> bool {
+pub(crate) fn is_left<G: OfGroups, B: Bound>(
+    last: &Option<Last<G>>,
+    kept: &KeptTenants<B>,
+) -> bool {
     match last {
         Some(last) => !kept.has(last.tenant()),
         None => false,

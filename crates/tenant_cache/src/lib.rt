@@ -10,7 +10,7 @@ mod ready;
 mod ready_store;
 mod reports;
 
-pub use bound::{Bound, Bytes};
-pub use kept::Kept;
-pub use ready::Ready;
+pub use bound::{Bound, ByteBound};
+pub use kept::KeptTenants;
+pub use ready::ReadyTenant;
 pub use ready_store::CachedStore;

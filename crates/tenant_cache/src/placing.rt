@@ -9,19 +9,19 @@ ghost use Rattle.tenant_cache.specs.Ready.{AreNumbersOf, HasNumber, IsWithNumber
 ghost use Rattle.tenant_state.specs.State.{pool as pool_at};
 
 use crate::bound::Bound;
-use crate::kept::Kept;
-use crate::ready::Ready;
+use crate::kept::KeptTenants;
+use crate::ready::ReadyTenant;
 use crate::reports::{Reports, moved, touched};
 use crush_cache::PlacementCache;
 use crush_pool::Placement;
 use std::alloc::Global;
 use std::rc::Rc;
-use tenant_core::{Asked, Cached};
+use tenant_core::{CachedAnswer, Question};
 use tenant_state::{Inventory, TenantPool};
 
 /// Returns the number that is kept beside what a tenant has for the content of a pool, while the
 /// cache still has that content.
-fn number_beside(cache: &PlacementCache, ready: &Ready, pool: &TenantPool) -> Option<u64>
+fn number_beside(cache: &PlacementCache, ready: &ReadyTenant, pool: &TenantPool) -> Option<u64>
     ensures number { IfSome result (λ n. Contains ready.now.numbers (pool.now.parts.id, n)) }
     ensures there { IfSome result (λ n. cache.now.first ≤ n) }
 {
@@ -50,9 +50,9 @@ fn give_number(cache: &mut PlacementCache, inventory: &Inventory, pool: &TenantP
 /// fails.
 fn keep_number<B: Bound>(
     alloc: Global,
-    kept: &mut Kept<B>,
+    kept: &mut KeptTenants<B>,
     name: &str,
-    ready: &Ready,
+    ready: &ReadyTenant,
     pool: &TenantPool,
     number: u64,
 )
@@ -75,9 +75,9 @@ fn keep_number<B: Bound>(
 fn number_for<B: Bound>(
     alloc: Global,
     cache: &mut PlacementCache,
-    kept: &mut Kept<B>,
+    kept: &mut KeptTenants<B>,
     name: &str,
-    ready: &Ready,
+    ready: &ReadyTenant,
     pool: &TenantPool,
 ) -> Option<u64>
     requires known { AreNumbersOf cache.old ready.now }
@@ -122,9 +122,9 @@ fn place(
 fn placed<B: Bound>(
     alloc: Global,
     cache: &mut PlacementCache,
-    kept: &mut Kept<B>,
+    kept: &mut KeptTenants<B>,
     name: &str,
-    ready: &Ready,
+    ready: &ReadyTenant,
     pool: &TenantPool,
     group: u32,
 ) -> Option<Rc<Placement>>
@@ -143,13 +143,13 @@ fn placed<B: Bound>(
 pub(crate) fn find<'q, B: Bound>(
     alloc: Global,
     cache: &mut PlacementCache,
-    kept: &mut Kept<B>,
+    kept: &mut KeptTenants<B>,
     reports: &mut Reports,
     name: &str,
-    ready: &Ready,
+    ready: &ReadyTenant,
     pool: &TenantPool,
-    asked: Asked<'q>,
-) -> Option<Cached<'q>>
+    asked: Question<'q>,
+) -> Option<CachedAnswer<'q>>
     requires known { AreNumbersOf cache.old ready.now }
     requires there { pool_at pool.now.parts.id ready.now.inventory ≡ Some pool.now }
     ensures found { IfSome result (λ r. Says ready.now.inventory r (answer_on ready.now.inventory asked.entry (Some pool.now))) }
@@ -158,26 +158,26 @@ pub(crate) fn find<'q, B: Bound>(
 {
     let inventory: &Inventory = ready.inventory();
     match asked {
-        Asked::Group(group) => {
+        Question::Group(group) => {
             if group >= u64::from(pool.parts().pg_num) {
                 return None;
             }
             let group = group as u32;
             let placement = placed(alloc, cache, kept, name, ready, pool, group)?;
-            Some(Cached::Placed(group, placement))
+            Some(CachedAnswer::Placed(group, placement))
         }
-        Asked::Object(object) => {
+        Question::Object(object) => {
             let group = pool.pool().group_of_hash(object.hash());
             let placement = placed(alloc, cache, kept, name, ready, pool, group)?;
-            Some(Cached::Located(object, group, placement))
+            Some(CachedAnswer::Located(object, group, placement))
         }
-        Asked::Device(device) => {
+        Question::Device(device) => {
             let groups = touched(alloc, reports, name, inventory, pool, device)?;
-            Some(Cached::Touched(pool.id(), device, groups))
+            Some(CachedAnswer::Touched(pool.id(), device, groups))
         }
-        Asked::Versions(from, to) => {
+        Question::Versions(from, to) => {
             let rows = moved(alloc, reports, name, inventory, pool, from, to)?;
-            Some(Cached::Moved(pool.id(), from, to, rows))
+            Some(CachedAnswer::Moved(pool.id(), from, to, rows))
         }
     }
 }

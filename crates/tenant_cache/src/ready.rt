@@ -15,7 +15,7 @@ const NUMBER_LIMIT: usize = 16;
 /// What a tenant has, kept ready, with the numbers that a cache of placements gave to the contents
 /// of its pools on the newest version. Contracts see both.
 #[derive(Drop)]
-pub struct Ready {
+pub struct ReadyTenant {
     inventory: Rc<Inventory>,
     /// The id of a pool and a number; the pair that was given last comes first.
     numbers: Vec<(u32, u64)>,
@@ -23,19 +23,19 @@ pub struct Ready {
     bytes: u64,
 }
 
-impl Model for Ready {
+impl Model for ReadyTenant {
     ghost use Rattle.std.specs.Prelude.{◌≡◌, ◌-◌, ◌^◌, min};
-    ghost use Rattle.tenant_cache.specs.Kept.{Ready};
+    ghost use Rattle.tenant_cache.specs.Kept.{ReadyTenant};
     ghost use Rattle.tenant_state.specs.Size as spec;
 
-    ghost Value = { Ready };
+    ghost Value = { ReadyTenant };
 
     ghost view = { λ a. record { inventory = a.inventory.value; numbers = a.numbers.items } };
 
     ghost invariant = { λ a. a.bytes ≡ min (spec.size a.inventory.value) (2 ^ 64 - 1) };
 }
 
-impl Ready {
+impl ReadyTenant {
     ghost use Rattle.std.specs.Prelude.{◌≡◌, ◌-◌, ◌^◌, ◌&&◌, [], Contains, IfOk, IfSome, is_some, min, nat_lt};
     ghost use Rattle.tenant_cache.specs.Ready.{IsWithNumber};
     ghost use Rattle.tenant_state.specs.Size.{size};
@@ -47,7 +47,7 @@ impl Ready {
         ensures { result ≡ record { inventory = inventory.value; numbers = [] } }
     {
         let bytes = inventory.size();
-        Ready {
+        ReadyTenant {
             inventory,
             numbers: Vec::new(alloc),
             bytes,
@@ -76,7 +76,12 @@ impl Ready {
     /// Makes the same with one more number, for the content of a pool; the number that was given
     /// first is left out where there are more than `NUMBER_LIMIT`. `Err(AllocError)`: an allocation
     /// failed; nothing is changed.
-    pub fn with_number(&self, alloc: Global, pool: u32, number: u64) -> Result<Ready, AllocError>
+    pub fn with_number(
+        &self,
+        alloc: Global,
+        pool: u32,
+        number: u64,
+    ) -> Result<ReadyTenant, AllocError>
         ensures { IfOk result (λ r. IsWithNumber self.now pool number r) }
     {
         let mut numbers = Vec::with_capacity(alloc, NUMBER_LIMIT)?;
@@ -86,7 +91,7 @@ impl Ready {
                 numbers.push((*id, *other))?;
             }
         }
-        Ok(Ready {
+        Ok(ReadyTenant {
             inventory: self.inventory.clone()?,
             numbers,
             bytes: self.bytes,
@@ -97,13 +102,17 @@ impl Ready {
     /// exactly where what it has can't take the change: there is no room for one more receipt, or
     /// the change doesn't suit the inventory. `Err(AllocError)`: an allocation failed; nothing is
     /// changed.
-    pub fn after(&self, alloc: Global, change: &Change) -> Result<Option<Rc<Ready>>, AllocError>
+    pub fn after(
+        &self,
+        alloc: Global,
+        change: &Change,
+    ) -> Result<Option<Rc<ReadyTenant>>, AllocError>
         ensures some { IfOk result (λ found. is_some found ≡ (nat_lt self.now.inventory.epoch RECEIPT_LIMIT && suits change.now.made self.now.inventory)) }
         ensures next { IfOk result (λ found. IfSome found (λ r. r.value ≡ record { inventory = inventory_after change.now self.now.inventory; numbers = [] })) }
     {
         if self.inventory.epoch() < RECEIPT_LIMIT as u64 && self.inventory.suits(&change.made) {
             let inventory = Rc::new(alloc, self.inventory.after(alloc, change)?)?;
-            Ok(Some(Rc::new(alloc, Ready::new(alloc, inventory))?))
+            Ok(Some(Rc::new(alloc, ReadyTenant::new(alloc, inventory))?))
         } else {
             Ok(None)
         }

@@ -7,16 +7,16 @@ ghost use Rattle.tenant_core.specs.States.{Found, HasInventory, IsDamaged, Leave
 ghost use Rattle.tenant_core.specs.StoreReply.{is_failed};
 
 use crate::bound::Bound;
-use crate::kept::Kept;
+use crate::kept::KeptTenants;
 use crate::placing::find;
-use crate::ready::Ready;
+use crate::ready::ReadyTenant;
 use crate::reports::Reports;
 use crush_cache::PlacementCache;
 use std::alloc::{AllocError, Global};
 use std::marker::Model;
 use std::num::NonZeroUsize;
 use std::rc::Rc;
-use tenant_core::{Cached, Query, StoreFault, TenantStore};
+use tenant_core::{CachedAnswer, Query, StoreFault, TenantStore};
 use tenant_state::{Change, Inventory, Receipt};
 
 /// A store over another one, which keeps in memory what the tenants that were used last have (at
@@ -30,7 +30,7 @@ use tenant_state::{Change, Inventory, Receipt};
 pub struct CachedStore<T: TenantStore, B: Bound> {
     alloc: Global,
     below: T,
-    kept: Kept<B>,
+    kept: KeptTenants<B>,
     cache: PlacementCache,
     reports: Reports,
     /// Whether the store below has what tenants have in memory, and shares it at a load.
@@ -62,7 +62,7 @@ impl<T: TenantStore + Drop, B: Bound> CachedStore<T, B> {
         ensures made { IfOk result (λ store. store ≡ below) }
         ensures refused { IfErr result (λ refused. refused.1 ≡ below) }
     {
-        let Ok(kept) = Kept::new(alloc) else {
+        let Ok(kept) = KeptTenants::new(alloc) else {
             return Err((AllocError, below));
         };
         let Ok(cache) = PlacementCache::new(alloc, placements) else {
@@ -90,7 +90,7 @@ impl<T: TenantStore + Drop, B: Bound> CachedStore<T, B> {
     {
         Ok(CachedStore {
             alloc,
-            kept: Kept::new(alloc)?,
+            kept: KeptTenants::new(alloc)?,
             cache: PlacementCache::new(alloc, placements)?,
             reports: Reports::new(),
             below,
@@ -123,7 +123,7 @@ impl<T: TenantStore, B: Bound> CachedStore<T, B> {
         let Ok(key) = String::from_str(self.alloc, name) else {
             return;
         };
-        let Ok(ready) = Rc::new(self.alloc, Ready::new(self.alloc, shared)) else {
+        let Ok(ready) = Rc::new(self.alloc, ReadyTenant::new(self.alloc, shared)) else {
             return;
         };
         self.kept.put(key, ready);
@@ -225,7 +225,11 @@ impl<T: TenantStore, B: Bound> TenantStore for CachedStore<T, B> {
         self.below.find_receipt(name, number)
     }
 
-    fn cached<'q>(&mut self, name: &str, query: &'q Query) -> Option<(Rc<Inventory>, Cached<'q>)> {
+    fn cached<'q>(
+        &mut self,
+        name: &str,
+        query: &'q Query,
+    ) -> Option<(Rc<Inventory>, CachedAnswer<'q>)> {
         let (id, asked) = query.asked()?;
         let Ok(Some(ready)) = self.kept.get(name) else {
             return None;

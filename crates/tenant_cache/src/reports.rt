@@ -11,7 +11,7 @@ ghost use Rattle.tenant_reports.specs.Impact.{groups_of};
 ghost use Rattle.tenant_reports.specs.Moves.{rows_of};
 
 use crate::bound::Bound;
-use crate::kept::Kept;
+use crate::kept::KeptTenants;
 use crate::last::{Last, is_left, is_of_tenant, renew};
 use crush_map::Listed;
 use crush_pool::{Content, Placer};
@@ -38,7 +38,7 @@ impl Reports {
     }
 
     /// Frees the values for tenants of which nothing is kept by name.
-    pub fn give_up_left<B: Bound>(&mut self, kept: &Kept<B>) {
+    pub fn give_up_left<B: Bound>(&mut self, kept: &KeptTenants<B>) {
         if is_left(&self.touches, kept) {
             self.touches = None;
         }

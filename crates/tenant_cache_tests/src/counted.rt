@@ -7,7 +7,7 @@ use std::alloc::{AllocError, Global};
 use std::cell::Cell;
 use std::process::Abort;
 use std::rc::Rc;
-use tenant_cache::{Bytes, CachedStore};
+use tenant_cache::{ByteBound, CachedStore};
 use tenant_core::TenantStore;
 use tenant_service::{MemoryStore, Service};
 
@@ -27,7 +27,7 @@ pub(crate) fn cached<T: TenantStore + Drop, const BYTES: u64>(
     over: Over,
     below: T,
     placements: usize,
-) -> CachedStore<T, Bytes<BYTES>> {
+) -> CachedStore<T, ByteBound<BYTES>> {
     let room = room_for(rt, placements);
     let made = match over {
         Over::Bound => CachedStore::over(alloc, below, room).ok(),
@@ -38,7 +38,7 @@ pub(crate) fn cached<T: TenantStore + Drop, const BYTES: u64>(
 
 /// A service over a store that keeps ready what tenants have, over a watched one.
 pub(crate) type Counted<const BYTES: u64> = Service<
-    CachedStore<Watched<MemoryStore>, Bytes<BYTES>>,
+    CachedStore<Watched<MemoryStore>, ByteBound<BYTES>>,
 >;
 
 /// Makes a watched store without a tenant, whose call after `left` others meets a fault.

@@ -8,12 +8,12 @@ use crush_pool::Placement;
 use std::alloc::Global;
 use std::process::Abort;
 use std::rc::Rc;
-use tenant_cache::{Bytes, CachedStore};
-use tenant_core::{Cached, CallParts, Query, TenantStore};
+use tenant_cache::{ByteBound, CachedStore};
+use tenant_core::{CachedAnswer, CallParts, Query, TenantStore};
 use tenant_service::{MemoryStore, Service};
 
 /// A store between two requests, for each of which a service takes it and gives it back.
-pub(crate) type Held = Option<CachedStore<MemoryStore, Bytes<1_000_000_000>>>;
+pub(crate) type Held = Option<CachedStore<MemoryStore, ByteBound<1_000_000_000>>>;
 
 /// A part of a history.
 #[derive(Clone, Copy)]
@@ -88,7 +88,11 @@ pub(crate) fn accept<T: TenantStore + Drop>(
 
 /// Finds what the store has in its cache for a query. It is the one place that asks the cache: what
 /// the contract of `cached` says is long, and each caller's proof has it.
-fn found<'q, T: TenantStore>(store: &mut T, tenant: &str, query: &'q Query) -> Option<Cached<'q>> {
+fn found<'q, T: TenantStore>(
+    store: &mut T,
+    tenant: &str,
+    query: &'q Query,
+) -> Option<CachedAnswer<'q>> {
     let Some(both) = store.cached(tenant, query) else {
         return None;
     };
@@ -104,7 +108,7 @@ pub(crate) fn placed<T: TenantStore>(
     group: u64,
 ) -> Rc<Placement> {
     match found(store, tenant, &Query::Group(1, group)) {
-        Some(Cached::Placed(_, placement)) => placement,
+        Some(CachedAnswer::Placed(_, placement)) => placement,
         _ => rt.abort(),
     }
 }
@@ -154,7 +158,7 @@ pub(crate) fn assert_touched<T: TenantStore>(
     groups: &[u32],
 ) {
     match found(store, tenant, &Query::Impact(1, device)) {
-        Some(Cached::Touched(_, _, touched)) => {
+        Some(CachedAnswer::Touched(_, _, touched)) => {
             assert_that(rt, touched.as_slice() == groups, tenant, device)
         }
         _ => rt.abort(),
@@ -162,9 +166,9 @@ pub(crate) fn assert_touched<T: TenantStore>(
 }
 
 /// Asserts that what was found are the moves of `count` groups.
-fn assert_moved(rt: &impl Abort, found: &Option<Cached<'_>>, count: usize, to: u64) {
+fn assert_moved(rt: &impl Abort, found: &Option<CachedAnswer<'_>>, count: usize, to: u64) {
     match found {
-        Some(Cached::Moved(_, _, _, rows)) => assert_that(
+        Some(CachedAnswer::Moved(_, _, _, rows)) => assert_that(
             rt,
             rows.as_slice().len() == count,
             "to",
@@ -175,8 +179,8 @@ fn assert_moved(rt: &impl Abort, found: &Option<Cached<'_>>, count: usize, to: u
 }
 
 /// Asserts that what was found are the moves of 8 groups, each from the up list `old` to `new`.
-fn assert_rows(rt: &impl Abort, found: &Option<Cached<'_>>, old: &[Slot], new: &[Slot]) {
-    let Some(Cached::Moved(_, _, _, rows)) = found else {
+fn assert_rows(rt: &impl Abort, found: &Option<CachedAnswer<'_>>, old: &[Slot], new: &[Slot]) {
+    let Some(CachedAnswer::Moved(_, _, _, rows)) = found else {
         return rt.abort();
     };
     let rows = rows.as_slice();

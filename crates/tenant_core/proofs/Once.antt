@@ -5,7 +5,7 @@ use Rattle.std.proofs.lemmas.Slice.Eq.{bytes_eq-Decides}
 use Rattle.tenant_core.proofs.Making.{can_take}
 use Rattle.tenant_core.specs.Commands.{decision, on_receipt, change_or_refusal, order_on, again, receipt_for, Command}
 use Rattle.tenant_core.specs.Effects.{Decided, Fits, decided}
-use Rattle.tenant_resources.specs.Orders.{Accepted}
+use Rattle.tenant_resources.specs.Orders.{Acceptance}
 use Rattle.tenant_state.proofs.Counting.{found, grown, kept, same_bytes}
 use Rattle.tenant_state.specs.Receipts.{receipt_of}
 use Rattle.tenant_messages.specs.Reply.{refused, repeated, reply}
@@ -29,7 +29,7 @@ pub record Accepts (k : Command) (s : TenantState) (c : Change) (d : Decided) : 
   pub body : c.receipt.body ≡ k.body
   pub reply : reply (repeated c.receipt.status c.receipt.reply) ≡ reply d.answer
 
-accepts_order : (k : Command) (s : TenantState) (c : Change) (a : Result Accepted Problem) → receipt_of k.number s.receipts ≡ None
+accepts_order : (k : Command) (s : TenantState) (c : Change) (a : Result Acceptance Problem) → receipt_of k.number s.receipts ≡ None
     → (change_or_refusal k a).effect ≡ effect.Change c → Accepts k s c (change_or_refusal k a)
 unfolding reply
 accepts_order k s c (Err problem) none h = cc
@@ -93,7 +93,7 @@ action_grows tenant a s c h = only_commands_change (λ c. epoch (after c s) ≡ 
 
 -- ---- what a decision needs of the state
 
-fits_order : (k : Command) (s : TenantState) (a : Result Accepted Problem) → order_on k.order (inventory_of s) ≡ a → receipt_of k.number s.receipts ≡ None → epoch s < RECEIPT_LIMIT
+fits_order : (k : Command) (s : TenantState) (a : Result Acceptance Problem) → order_on k.order (inventory_of s) ≡ a → receipt_of k.number s.receipts ≡ None → epoch s < RECEIPT_LIMIT
     → Fits (change_or_refusal k a).effect (Some s)
 fits_order k s (Err problem) is none room = tt
 fits_order k s (Ok a) is none room = record { new = none; room = room; made = can_take k.order (inventory_of s) a is }

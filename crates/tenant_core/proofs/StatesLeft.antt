@@ -14,7 +14,7 @@ use Rattle.tenant_messages.specs.Numbers.{has_length}
 use Rattle.tenant_messages.specs.Reply.{refused}
 use Rattle.tenant_messages.specs.declared.reply.Problem.{Problem}
 use Rattle.tenant_messages.specs.declared.reply.Problem.TheVariants.{TenantLimit}
-use Rattle.tenant_resources.specs.Orders.{Accepted}
+use Rattle.tenant_resources.specs.Orders.{Acceptance}
 use Rattle.tenant_state.proofs.Leaving.{state_stays}
 use Rattle.tenant_state.specs.Receipts.{receipt_of}
 use Rattle.tenant_state.specs.State.{Change, TenantState, after, epoch, inventory_of}
@@ -25,11 +25,11 @@ use Rattle.tenant_state.specs.declared.receipts.Receipt.{Receipt}
 -- ---- the order that a change makes
 
 record Accepting (k : Command) (s : TenantState) (c : Change) : Type 0 where
-  pub accepted : Accepted
+  pub accepted : Acceptance
   pub is : order_on k.order (inventory_of s) ≡ Ok accepted
   pub made : c.made ≡ accepted.made
 
-accepting_order : (k : Command) (s : TenantState) (c : Change) (a : Result Accepted Problem) → order_on k.order (inventory_of s) ≡ a → (change_or_refusal k a).effect ≡ effect.Change c → Accepting k s c
+accepting_order : (k : Command) (s : TenantState) (c : Change) (a : Result Acceptance Problem) → order_on k.order (inventory_of s) ≡ a → (change_or_refusal k a).effect ≡ effect.Change c → Accepting k s c
 accepting_order k s c (Err problem) is h = cc
 accepting_order k s c (Ok a) is h = let made : a.made ≡ c.made = cc in record { accepted = a; is = is; made = sym made }
 

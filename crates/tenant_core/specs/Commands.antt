@@ -7,7 +7,7 @@ use Rattle.crush_pool.specs.Exceptions.{are_pairs}
 use Rattle.crush_pool.specs.Pools.{is_pool}
 use Rattle.crush_pool.specs.declared.limits.TheConstants.{GROUP_LIMIT}
 use Rattle.tenant_core.specs.Effects.{Decided, decided}
-use Rattle.tenant_resources.specs.Orders.{Accepted}
+use Rattle.tenant_resources.specs.Orders.{Acceptance}
 use Rattle.tenant_resources.specs.Devices as devices
 use Rattle.tenant_resources.specs.Exceptions as exceptions
 use Rattle.tenant_resources.specs.Maps as maps
@@ -48,7 +48,7 @@ pub record IsCommand (command : Command) : Type 0 where
   pub order : IsOrder command.order
 
 -- what an order makes, or why nothing: the table of all orders
-abbrev pub order_on : Order → Inventory → Result Accepted Problem
+abbrev pub order_on : Order → Inventory → Result Acceptance Problem
 order_on (ImportMap text) inventory = maps.imported text inventory
 order_on (ChangeDevices changes) inventory = devices.devices_changed changes inventory
 order_on (CreatePool pool) inventory = pools.created pool inventory
@@ -57,12 +57,12 @@ order_on (RemovePool id) inventory = pools.removed id inventory
 
 -- ---- once
 
-abbrev pub receipt_for : Command → Accepted → Receipt
+abbrev pub receipt_for : Command → Acceptance → Receipt
 receipt_for command a = record { path = command.path; body = command.body; status = a.status; reply = compact_text a.body }
 
 -- an order that is accepted makes its change, with a receipt; one that is refused changes nothing
 -- and leaves no receipt
-abbrev pub change_or_refusal : Command → Result Accepted Problem → Decided
+abbrev pub change_or_refusal : Command → Result Acceptance Problem → Decided
 change_or_refusal command (Err problem) = decided Keep (refused problem)
 change_or_refusal command (Ok a) =
     decided (Change (record { number = command.number; receipt = receipt_for command a; made = a.made })) (answered a.status a.body)

@@ -17,7 +17,7 @@ use tenant_state::Inventory;
 
 /// What a query asks of a pool: all that a cache may have for it.
 #[derive(Clone, Copy)]
-pub enum Asked<'q> {
+pub enum Question<'q> {
     /// Where the group with this number lies.
     Group(u64),
     /// Where the object with this name lies.
@@ -30,7 +30,7 @@ pub enum Asked<'q> {
 
 /// What a store had in its cache for a query: with the inventory, all that the reply says.
 #[derive(Drop)]
-pub enum Cached<'q> {
+pub enum CachedAnswer<'q> {
     /// A group, and its placement.
     Placed(u32, Rc<Placement>),
     /// The name of an object, its group, and the placement of that.
@@ -48,14 +48,14 @@ impl Query {
 
     /// Returns the id of a pool, and what the query asks of that pool; `None` where it asks nothing
     /// that a cache may have.
-    pub fn asked(&self) -> Option<(u64, Asked<'_>)>
+    pub fn asked(&self) -> Option<(u64, Question<'_>)>
         ensures { IfSome result (λ r. Asks self.now r.0 r.1) }
     {
         match self {
-            Query::Group(id, group) => Some((*id, Asked::Group(*group))),
-            Query::Object(id, name) => Some((*id, Asked::Object(name))),
-            Query::Impact(id, device) => Some((*id, Asked::Device(*device))),
-            Query::Moves(id, from, to) => Some((*id, Asked::Versions(*from, *to))),
+            Query::Group(id, group) => Some((*id, Question::Group(*group))),
+            Query::Object(id, name) => Some((*id, Question::Object(name))),
+            Query::Impact(id, device) => Some((*id, Question::Device(*device))),
+            Query::Moves(id, from, to) => Some((*id, Question::Versions(*from, *to))),
             _ => None,
         }
     }
@@ -66,22 +66,22 @@ impl Query {
 pub fn answer_cached(
     alloc: Global,
     inventory: &Inventory,
-    cached: &Cached<'_>,
+    cached: &CachedAnswer<'_>,
 ) -> Result<Reply, AllocError>
     requires { HasRoom cached.now }
     ensures { IfOk result (λ r. r ≡ reply (success (cached_reply inventory.now cached.now))) }
 {
     match cached {
-        Cached::Placed(group, placement) => {
+        CachedAnswer::Placed(group, placement) => {
             groups::placed_group(alloc, inventory, *group, placement)
         }
-        Cached::Located(name, group, placement) => {
+        CachedAnswer::Located(name, group, placement) => {
             groups::placed_object(alloc, name, inventory, *group, placement)
         }
-        Cached::Touched(id, device, groups) => {
+        CachedAnswer::Touched(id, device, groups) => {
             impact::touched_reply(alloc, inventory, *id, *device, groups.as_slice())
         }
-        Cached::Moved(id, from, to, rows) => {
+        CachedAnswer::Moved(id, from, to, rows) => {
             moves::moved_reply(alloc, inventory, *id, *from, *to, rows.as_slice())
         }
     }

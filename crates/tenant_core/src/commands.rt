@@ -19,7 +19,7 @@ use std::alloc::{AllocError, Global};
 use std::marker::Model;
 use std::rc::Rc;
 use tenant_messages::{Problem, Refusal, Reply, answered, refused, repeated};
-use tenant_resources::{Accepted, devices, exceptions, maps, pools};
+use tenant_resources::{Acceptance, devices, exceptions, maps, pools};
 use tenant_state::limits::RECEIPT_LIMIT;
 use tenant_state::{Change, Inventory, Receipt, TenantState, is_repeat};
 
@@ -60,7 +60,7 @@ impl<'a> Model for Command<'a> {
 }
 
 /// Accepts an order, with the reply, or says why not: the table of all orders.
-fn accept(alloc: Global, order: &Order, inventory: &Inventory) -> Result<Accepted, Refusal>
+fn accept(alloc: Global, order: &Order, inventory: &Inventory) -> Result<Acceptance, Refusal>
     requires epoch { inventory.now.epoch < 2 ^ 32 }
     requires order { spec.IsOrder order.now }
     requires valid { IsInventory inventory.now }
@@ -89,7 +89,7 @@ fn accept(alloc: Global, order: &Order, inventory: &Inventory) -> Result<Accepte
 fn with_receipt(
     alloc: Global,
     command: &Command<'_>,
-    accepted: Accepted,
+    accepted: Acceptance,
 ) -> Result<(Option<Change>, Reply), AllocError>
     requires plain { has_float (view accepted.body) ≡ false }
     requires made { IsMade (made_of accepted.made) }

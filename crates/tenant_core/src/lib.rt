@@ -14,7 +14,7 @@ mod router;
 mod store;
 mod tenants;
 
-pub use cached::{Asked, Cached, answer_cached};
+pub use cached::{CachedAnswer, Question, answer_cached};
 pub use commands::{Command, Order, apply, apply_to};
 pub use creation::create;
 pub use decision::{Decision, Effect, decide};
@@ -24,4 +24,4 @@ pub use route::{Methods, Route};
 pub use router::{Routes, Target};
 pub use store::{TenantStore, store_fault};
 pub use tenant_messages::{Bytes, Call, CallParts, Problem, Refusal, Reply, StoreFault, refused};
-pub use tenant_state::{Change, Inventory, Made, Receipt, TenantState};
+pub use tenant_state::{Change, Inventory, Product, Receipt, TenantState};

@@ -9,7 +9,7 @@ ghost use Rattle.tenant_core.specs.States.{Found, HasInventory, IsDamaged, Leave
 ghost use Rattle.tenant_core.specs.StoreReply as spec;
 ghost use Rattle.tenant_core.specs.StoreReply.{is_failed};
 
-use crate::cached::Cached;
+use crate::cached::CachedAnswer;
 use crate::queries::Query;
 use std::alloc::{AllocError, Global};
 use std::rc::Rc;
@@ -72,7 +72,11 @@ pub trait TenantStore {
 
     /// Returns what a tenant has, with what a query asks for, where the store has both in its
     /// cache; `None` says nothing. It changes nothing that contracts see.
-    fn cached<'q>(&mut self, name: &str, query: &'q Query) -> Option<(Rc<Inventory>, Cached<'q>)>
+    fn cached<'q>(
+        &mut self,
+        name: &str,
+        query: &'q Query,
+    ) -> Option<(Rc<Inventory>, CachedAnswer<'q>)>
         ensures fits { IfSome result (λ r. IsCachedFor query.now r.0.value r.1) }
         ensures found { is_honest self.new → latched self.new ≡ false → IfSome result (λ r. HasInventory (has_state self.new) name.now (Some r.0.value)) }
         ensures same { self.new ≡ self.old }

@@ -12,7 +12,7 @@ ghost use Rattle.tenant_files.specs.Opened.{IsFound};
 ghost use Rattle.tenant_files.specs.Refused.{IsRefused};
 
 use crate::fault::{FileFault, fault_of};
-use crate::refused::Refused;
+use crate::refused::FileRefusal;
 use sqlite::FileStore;
 use sqlite_disk::{Disk, Files};
 use tenant_store::Store;
@@ -20,7 +20,7 @@ use tenant_store::Store;
 /// What a store over a database file gave back: the two files, and whether the log was copied into
 /// the database file.
 #[derive(Drop)]
-pub struct Closed<D: Disk> {
+pub struct Closing<D: Disk> {
     /// Whether the log was copied. `Err`: it wasn't, and what was committed is in the file or in
     /// its log.
     pub copied: Result<(), FileFault>,
@@ -31,18 +31,18 @@ pub struct Closed<D: Disk> {
 ///
 /// `copied` is `Err(FileFault::Store)` where the file failed, and `Err(FileFault::NoMemory)` where
 /// an allocation failed.
-pub fn close_store<D: Disk + Drop>(store: Store<FileStore<D>>) -> Closed<D>
+pub fn close_store<D: Disk + Drop>(store: Store<FileStore<D>>) -> Closing<D>
     ensures given { GivesBack store.0 result.copied result.files }
     ensures cause { IfErr result.copied (FailsToCopy store.0 result.files) }
     ensures honest { HasCleanDisk (file_state store.0) → IsHonest over_files store }
 {
     let conn = store.close();
     match conn.close_files() {
-        Ok(files) => Closed {
+        Ok(files) => Closing {
             copied: Ok(()),
             files,
         },
-        Err((error, left)) => Closed {
+        Err((error, left)) => Closing {
             copied: Err(fault_of(error)),
             files: left.close(),
         },
@@ -50,13 +50,13 @@ pub fn close_store<D: Disk + Drop>(store: Store<FileStore<D>>) -> Closed<D>
 }
 
 /// Gives back the files of a store. Nothing is copied.
-pub fn give_up<D: Disk + Drop>(store: Store<FileStore<D>>) -> Closed<D>
+pub fn give_up<D: Disk + Drop>(store: Store<FileStore<D>>) -> Closing<D>
     ensures given { GivesBack store.0 result.copied result.files }
     ensures failed { result.copied ≡ Err FileFault.Store }
     ensures honest { HasCleanDisk (file_state store.0) → IsHonest over_files store }
 {
     let conn = store.close();
-    Closed {
+    Closing {
         copied: Err(FileFault::Store),
         files: conn.into_store().close(),
     }
@@ -64,12 +64,12 @@ pub fn give_up<D: Disk + Drop>(store: Store<FileStore<D>>) -> Closed<D>
 
 /// Gives back the files of a store that was opened and isn't used, because of `fault`. Nothing is
 /// copied. What an opening found in the files (`image`) is there, also after a crash.
-pub fn give_back<D: Disk + Drop>(store: Store<FileStore<D>>, fault: FileFault) -> Refused<D>
+pub fn give_back<D: Disk + Drop>(store: Store<FileStore<D>>, fault: FileFault) -> FileRefusal<D>
     requires works { store.1 ≡ false }
     ensures { (image : Image) → IsFound D.Disk (HasCleanDisk (file_state store.0)) image (StandsFor (file_state store.0).now.trees) → IfSome result.files (IsRefused D.Disk image) }
 {
     let closed = give_up(store);
-    Refused {
+    FileRefusal {
         fault,
         files: Some(closed.files),
     }

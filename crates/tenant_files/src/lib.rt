@@ -11,9 +11,9 @@ mod ready;
 mod refused;
 mod watch;
 
-pub use closing::{Closed, close_store};
+pub use closing::{Closing, close_store};
 pub use fault::FileFault;
 pub use opening::open_watched;
 pub use ready::{READY_BYTES, ReadyStore, close_ready, ready_over};
-pub use refused::Refused;
+pub use refused::FileRefusal;
 pub use watch::FileWatch;

@@ -13,7 +13,7 @@ ghost use Rattle.tenant_files.specs.Refused.{IsRefused};
 use crate::closing::give_back;
 use crate::fault::{FileFault, fault_of};
 use crate::log::{LogBefore, log_before};
-use crate::refused::Refused;
+use crate::refused::FileRefusal;
 use crate::watch::FileWatch;
 use sqlite::{Connection, Error, ErrorCode, FileStore, Leftover};
 use sqlite_disk::{Disk, Start};
@@ -48,15 +48,15 @@ fn unread<D: Disk + Drop>(
     before: &Option<LogBefore>,
     error: Error,
     left: Option<Leftover<D>>,
-) -> Refused<D>
+) -> FileRefusal<D>
     ensures { IfSome result.files (λ files. (it : Left D D.Disk) × (left ≡ Some it) × (files_left it ≡ (files.log, files.db))) }
 {
     let fault = fault_of(error);
     let Some(left) = left else {
-        return Refused { fault, files: None };
+        return FileRefusal { fault, files: None };
     };
     restore_log(rt, before, is_refusal(error));
-    Refused {
+    FileRefusal {
         fault,
         files: Some(left.into_files()),
     }
@@ -74,7 +74,7 @@ fn open_store<S: Start>(
     rt: &HostRuntime,
     path: &str,
     start: S,
-) -> Result<Store<FileStore<FileFrom<S>>>, Refused<FileFrom<S>>>
+) -> Result<Store<FileStore<FileFrom<S>>>, FileRefusal<FileFrom<S>>>
     ensures live { IfOk result (λ store. store.1 ≡ false) }
 
     // The rows stand for the states that the files held.
@@ -92,7 +92,7 @@ fn open_store<S: Start>(
         Ok(store) => Ok(store),
         Err((fault, store)) => {
             restore_log(rt, &before, fault == StoreFault::Damaged);
-            Err(Refused {
+            Err(FileRefusal {
                 fault: FileFault::from(fault),
                 files: Some(store.close()),
             })
@@ -108,7 +108,7 @@ pub fn open_watched<'a, S: Start>(
     rt: &'a HostRuntime,
     path: &'a str,
     start: S,
-) -> Result<(Store<FileStore<FileFrom<S>>>, FileWatch<'a>), Refused<FileFrom<S>>>
+) -> Result<(Store<FileStore<FileFrom<S>>>, FileWatch<'a>), FileRefusal<FileFrom<S>>>
     ensures live { IfOk result (λ r. r.0.1 ≡ false) }
 
     // The rows stand for the states that the files held.

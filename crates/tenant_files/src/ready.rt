@@ -7,13 +7,13 @@ ghost use Rattle.tenant_store.specs.Shown.{IsHonest};
 ghost use Rattle.tenant_files.specs.Closed.{GivesBack};
 ghost use Rattle.tenant_files.specs.Closing.{FailsToCopy};
 
-use crate::closing::{Closed, close_store, give_up};
+use crate::closing::{Closing, close_store, give_up};
 use crate::fault::FileFault;
 use sqlite::FileStore;
 use sqlite_disk::Disk;
 use std::alloc::Global;
 use std::num::NonZeroUsize;
-use tenant_cache::{Bytes, CachedStore};
+use tenant_cache::{ByteBound, CachedStore};
 use tenant_core::TenantStore;
 use tenant_store::{Store, Watch, WatchedStore};
 
@@ -24,7 +24,10 @@ pub const READY_BYTES: u64 = 268_435_456;
 
 /// A store over a database file that keeps in memory what tenants have, within `READY_BYTES`. No
 /// change is acknowledged once the watch misses the files.
-pub type ReadyStore<D, F> = CachedStore<WatchedStore<Store<FileStore<D>>, F>, Bytes<READY_BYTES>>;
+pub type ReadyStore<D, F> = CachedStore<
+    WatchedStore<Store<FileStore<D>>, F>,
+    ByteBound<READY_BYTES>,
+>;
 
 /// Makes the ready store over a store over a file. It keeps the placements of `placements` groups
 /// too. `Err(closed)`: an allocation failed; the file is closed.
@@ -33,7 +36,7 @@ pub fn ready_over<D: Disk + Drop, F: Watch + Drop>(
     store: Store<FileStore<D>>,
     watch: F,
     placements: NonZeroUsize,
-) -> Result<ReadyStore<D, F>, Closed<D>>
+) -> Result<ReadyStore<D, F>, Closing<D>>
     ensures made { IfOk result (λ ready. ready ≡ ((store, watch), false)) }
     ensures given { IfErr result (λ closed. GivesBack store.0 closed.copied closed.files) }
     ensures cause { IfErr result (λ closed. IfErr closed.copied (FailsToCopy store.0 closed.files)) }
@@ -47,7 +50,7 @@ pub fn ready_over<D: Disk + Drop, F: Watch + Drop>(
 }
 
 /// Closes the file of a ready store. Nothing is copied where the store failed for good.
-pub fn close_ready<D: Disk + Drop, F: Watch + Drop>(ready: ReadyStore<D, F>) -> Closed<D>
+pub fn close_ready<D: Disk + Drop, F: Watch + Drop>(ready: ReadyStore<D, F>) -> Closing<D>
     ensures given { GivesBack ready.0.0.0 result.copied result.files }
     ensures failed { (ready.0.0.1 || ready.1) ≡ true → result.copied ≡ Err FileFault.Store }
     ensures cause { (ready.0.0.1 || ready.1) ≡ false → IfErr result.copied (FailsToCopy ready.0.0.0 result.files) }

@@ -9,16 +9,16 @@ use tenant_store::Watch;
 
 /// The identity of a file that was found, and its length in bytes.
 #[derive(Clone, Copy)]
-struct Seen {
+struct Sighting {
     device: u64,
     node: u64,
     length: u64,
 }
 
-impl Seen {
+impl Sighting {
     /// Returns the identity and the length that `found` has.
     fn of(found: Metadata) -> Self {
-        Seen {
+        Sighting {
             device: found.dev(),
             node: found.ino(),
             length: found.len(),
@@ -26,16 +26,16 @@ impl Seen {
     }
 
     /// Returns whether both are the same file, of whatever length.
-    fn is(self, other: Seen) -> bool {
+    fn is(self, other: Sighting) -> bool {
         self.device == other.device && self.node == other.node
     }
 }
 
 /// A database file and its log, as they were found last.
 #[derive(Clone, Copy)]
-struct Pair {
-    db: Seen,
-    log: Seen,
+struct FilePair {
+    db: Sighting,
+    log: Sighting,
 }
 
 /// A watch over a database file and its log: it looks whether they are found where the next opening
@@ -48,19 +48,19 @@ pub struct FileWatch<'a> {
     real: String,
     /// The path of the log.
     log: String,
-    last: Pair,
+    last: FilePair,
 }
 
 /// Finds the file at `real` and the log at `log`. `Err`: they aren't there, or `path` doesn't lead
 /// to the file at `real` any more.
-fn find(rt: &HostRuntime, path: &str, real: &str, log: &str) -> io::Result<Pair> {
-    let named = Seen::of(fs::metadata(rt, path)?);
-    let db = Seen::of(fs::symlink_metadata(rt, real)?);
+fn find(rt: &HostRuntime, path: &str, real: &str, log: &str) -> io::Result<FilePair> {
+    let named = Sighting::of(fs::metadata(rt, path)?);
+    let db = Sighting::of(fs::symlink_metadata(rt, real)?);
     if !named.is(db) {
         return Err(ErrorKind::NotFound.into());
     }
-    let log = Seen::of(fs::symlink_metadata(rt, log)?);
-    Ok(Pair { db, log })
+    let log = Sighting::of(fs::symlink_metadata(rt, log)?);
+    Ok(FilePair { db, log })
 }
 
 /// Makes a watch over the file at `path`, which is open, and over its log.
@@ -92,7 +92,7 @@ impl<'a> FileWatch<'a> {
     }
 
     /// Finds the files now. `None`: they aren't those that were opened.
-    fn found(&self) -> Option<Pair> {
+    fn found(&self) -> Option<FilePair> {
         match find(self.rt, self.path, self.real.as_str(), self.log.as_str()) {
             Ok(found) if found.db.is(self.last.db) && found.log.is(self.last.log) => Some(found),
             _ => None,

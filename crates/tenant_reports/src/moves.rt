@@ -11,7 +11,7 @@ ghost use Rattle.tenant_messages.specs.Reply.{reply, success};
 ghost use Rattle.tenant_reports.specs.Moves as spec;
 ghost use Rattle.tenant_reports.specs.Private.Pieces.{head_text};
 
-use crate::rows::{Row, push_rows};
+use crate::rows::{ReportRow, push_rows};
 use crush_map::Listed;
 use crush_report::{MoveRow, gained_in, moves_with};
 use std::alloc::{AllocError, Global};
@@ -43,7 +43,7 @@ fn rows_of(
 
 // ---- the answer
 
-impl Row for MoveRow {
+impl ReportRow for MoveRow {
     ghost use Rattle.tenant_reports.specs.Moves.{row_json};
 
     ghost json = { row_json };

@@ -8,7 +8,7 @@ ghost use Rattle.tenant_messages.specs.Slots.{list_json};
 use std::alloc::AllocError;
 
 /// A row of a report.
-pub trait Row {
+pub trait ReportRow {
     /// The row as JSON.
     ghost json: { Self → Data };
 
@@ -18,7 +18,7 @@ pub trait Row {
 }
 
 /// Adds a row to the end of a text, after a comma if `later`, where another row comes before.
-fn push_next<R: Row>(text: &mut String, later: bool, row: &R) -> Result<(), AllocError>
+fn push_next<R: ReportRow>(text: &mut String, later: bool, row: &R) -> Result<(), AllocError>
     ensures { OnOk result (string_bytes text.new ≡ string_bytes text.old ++ (comma_if later ++ compact_text (R.json row.now))) }
 {
     if later {
@@ -29,7 +29,7 @@ fn push_next<R: Row>(text: &mut String, later: bool, row: &R) -> Result<(), Allo
 
 /// Adds the rows to the end of a text, as a JSON list. `Err(AllocError)`: an allocation failed.
 #[tactic(auto, using(crate::proofs::Texts::row_more))]
-pub(crate) fn push_rows<R: Row>(text: &mut String, rows: &[R]) -> Result<(), AllocError>
+pub(crate) fn push_rows<R: ReportRow>(text: &mut String, rows: &[R]) -> Result<(), AllocError>
     ensures { OnOk result (string_bytes text.new ≡ string_bytes text.old ++ compact_text (list_json (map R.json rows.now))) }
 {
     text.push_str("[")?;

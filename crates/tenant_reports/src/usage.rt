@@ -7,7 +7,7 @@ ghost use Rattle.tenant_messages.specs.Refusals.{Answers};
 ghost use Rattle.tenant_messages.specs.Reply.{reply, success};
 ghost use Rattle.tenant_reports.specs.Usage as spec;
 
-use crate::rows::{Row, push_rows};
+use crate::rows::{ReportRow, push_rows};
 use crush_report::{UsageRow, usage_with};
 use std::alloc::{AllocError, Global};
 use tenant_messages::{Problem, Refusal, Reply, done, push_number};
@@ -18,7 +18,7 @@ const ROW_BYTES: usize = 84;
 
 const REST_BYTES: usize = 80;
 
-impl Row for UsageRow {
+impl ReportRow for UsageRow {
     ghost use Rattle.tenant_reports.specs.Usage.{row_json};
 
     ghost json = { row_json };

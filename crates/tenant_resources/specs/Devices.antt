@@ -20,7 +20,7 @@ use Rattle.tenant_messages.specs.Reply.{members_of, natural}
 use Rattle.tenant_messages.specs.declared.reply.Problem.{Problem}
 use Rattle.tenant_messages.specs.declared.reply.Problem.TheVariants.{NoVersion, NoDevice}
 use Rattle.tenant_messages.specs.declared.reply.SuccessStatus.TheVariants.{Done}
-use Rattle.tenant_resources.specs.Orders.{Accepted}
+use Rattle.tenant_resources.specs.Orders.{Acceptance}
 use Rattle.tenant_state.specs.State.{Inventory, NewStates, newest, version}
 
 -- ---- the form of a body, and the changes that it says
@@ -92,12 +92,12 @@ abbrev pub devices_reply : ℕ → Inventory → Data
 devices_reply count inventory = object (members_of ((codes "devices", natural count) ∷ (codes "epoch", natural (suc inventory.epoch)) ∷ []))
 
 -- each device has to be one of the newest version
-abbrev pub on_version : List DeviceChange → Inventory → Option Map → Result Accepted Problem
+abbrev pub on_version : List DeviceChange → Inventory → Option Map → Result Acceptance Problem
 on_version cs inventory None = Err NoVersion
 on_version cs inventory (Some m) =
     if list_all (λ c. has_device m c.device) cs then
     Ok (record { made = NewStates (map (changed inventory.devices) cs); status = Done; body = devices_reply (length cs) inventory })
     else Err NoDevice
 
-abbrev pub devices_changed : List DeviceChange → Inventory → Result Accepted Problem
+abbrev pub devices_changed : List DeviceChange → Inventory → Result Acceptance Problem
 devices_changed cs inventory = on_version cs inventory (version (newest inventory) inventory)

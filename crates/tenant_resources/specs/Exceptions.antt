@@ -16,7 +16,7 @@ use Rattle.tenant_messages.specs.declared.reply.Problem.{Problem}
 use Rattle.tenant_messages.specs.declared.reply.Problem.TheVariants.{NoVersion, NoPool, NoGroup, NoDevice}
 use Rattle.tenant_messages.specs.declared.reply.SuccessStatus.TheVariants.{Done}
 use Rattle.tenant_resources.specs.Devices.{has_device}
-use Rattle.tenant_resources.specs.Orders.{Accepted}
+use Rattle.tenant_resources.specs.Orders.{Acceptance}
 use Rattle.tenant_state.specs.State.{Inventory, NewExceptions, TenantPool, newest, pool, version}
 
 -- ---- the form of a body, and the pairs that it says
@@ -79,19 +79,19 @@ setting id pairs inventory =
     object (members_of ((codes "epoch", natural (suc inventory.epoch)) ∷ (codes "exceptions", natural (length pairs)) ∷ (codes "pool", natural id) ∷ []))
 
 -- each device has to be one of the newest version
-abbrev pub on_version : ℕ → List Pair → Inventory → Option Map → Result Accepted Problem
+abbrev pub on_version : ℕ → List Pair → Inventory → Option Map → Result Acceptance Problem
 on_version id pairs inventory None = Err NoVersion
 on_version id pairs inventory (Some m) =
     if has_devices m pairs then Ok (record { made = NewExceptions id pairs; status = Done; body = setting id pairs inventory }) else Err NoDevice
 
 -- and before that, the pool has to be one that can have the pairs: since those of a body are in
 -- their ranges, what it may lack is the group of a pair (law `pools_may_lack_groups`)
-abbrev pub on_pool : ℕ → List Pair → Inventory → Option TenantPool → Result Accepted Problem
+abbrev pub on_pool : ℕ → List Pair → Inventory → Option TenantPool → Result Acceptance Problem
 on_pool id pairs inventory None = Err NoPool
 on_pool id pairs inventory (Some p) =
     if are_pairs p.parts.pg_num pairs then on_version id pairs inventory (version (newest inventory) inventory) else Err NoGroup
 
-abbrev pub exceptions_set : ℕ → List Pair → Inventory → Result Accepted Problem
+abbrev pub exceptions_set : ℕ → List Pair → Inventory → Result Acceptance Problem
 exceptions_set id pairs inventory = on_pool id pairs inventory (pool id inventory)
 
 -- ---- the answer

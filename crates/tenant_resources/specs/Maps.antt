@@ -7,7 +7,7 @@ use Rattle.crush_text.specs.crush_grammar.specs.declared.code.TextFault.{TextFau
 use Rattle.crush_map.specs.Map.{Map}
 use Rattle.crush_text.specs.crush_writing.specs.Canonical.{canonical}
 use Rattle.crush_text.specs.Reading.{map_of_text}
-use Rattle.tenant_resources.specs.Orders.{Accepted}
+use Rattle.tenant_resources.specs.Orders.{Acceptance}
 use Rattle.tenant_messages.specs.Forms.{IsText, HasExactly, IsUnder}
 use Rattle.tenant_messages.specs.Json.{value_of, both, has_keys, under}
 use Rattle.tenant_messages.specs.Numbers.{IsRequestNumber, request_number_of}
@@ -45,13 +45,13 @@ abbrev pub import_reply : Inventory → Data
 import_reply inventory = object (members_of ((codes "epoch", natural (suc inventory.epoch)) ∷ (codes "version", natural (suc (newest inventory))) ∷ []))
 
 -- each pool's rule has to be in the new map
-abbrev pub on_text : Inventory → Result Map TextFault → Result Accepted Problem
+abbrev pub on_text : Inventory → Result Map TextFault → Result Acceptance Problem
 on_text inventory (Err fault) = Err (MapRefused fault)
 on_text inventory (Ok m) =
     if has_rules_of inventory.pools m then Ok (record { made = NewVersion m; status = Created; body = import_reply inventory })
     else Err RuleInUse
 
-abbrev pub imported : List ℕ → Inventory → Result Accepted Problem
+abbrev pub imported : List ℕ → Inventory → Result Acceptance Problem
 imported text inventory = if nat_le VERSION_LIMIT (length inventory.versions) then Err TenantLimit else on_text inventory (map_of_text text)
 
 -- ---- reading a version

@@ -18,7 +18,7 @@ use Rattle.tenant_messages.specs.declared.reply.Problem.{Problem}
 use Rattle.tenant_messages.specs.declared.reply.Problem.TheVariants.{NoVersion, NoPool, NoRule, Exists, TenantLimit}
 use Rattle.tenant_messages.specs.declared.reply.SuccessStatus.TheVariants.{Done, Created}
 use Rattle.tenant_resources.specs.declared.pools.Sizes.{Sizes}
-use Rattle.tenant_resources.specs.Orders.{Accepted}
+use Rattle.tenant_resources.specs.Orders.{Acceptance}
 use Rattle.tenant_state.specs.declared.limits.TheConstants.{POOL_LIMIT}
 use Rattle.tenant_state.specs.State.{Inventory, NewPool, RemovedPool, TenantPool, is_like, newest, version, pool}
 
@@ -130,7 +130,7 @@ removal_request_of body = option_and_then removal_of (value_of body)
 abbrev pub creation : ℕ → Inventory → Data
 creation id inventory = object (members_of ((codes "epoch", natural (suc inventory.epoch)) ∷ (codes "pool", natural id) ∷ []))
 
-abbrev pub on_rule : PoolParts → Inventory → Option Rule → Result Accepted Problem
+abbrev pub on_rule : PoolParts → Inventory → Option Rule → Result Acceptance Problem
 on_rule p inventory None = Err NoRule
 on_rule p inventory (Some rule) =
     if list_any (is_like p) inventory.pools then Err Exists
@@ -138,11 +138,11 @@ on_rule p inventory (Some rule) =
     else Ok (record { made = NewPool p; status = Created; body = creation p.id inventory }))
 
 -- the newest version has to have the pool's rule
-abbrev pub on_version : PoolParts → Inventory → Option Map → Result Accepted Problem
+abbrev pub on_version : PoolParts → Inventory → Option Map → Result Acceptance Problem
 on_version p inventory None = Err NoVersion
 on_version p inventory (Some m) = on_rule p inventory (rule_numbered m p.rule)
 
-abbrev pub created : PoolParts → Inventory → Result Accepted Problem
+abbrev pub created : PoolParts → Inventory → Result Acceptance Problem
 created p inventory = on_version p inventory (version (newest inventory) inventory)
 
 -- ---- removing a pool
@@ -151,9 +151,9 @@ created p inventory = on_version p inventory (version (newest inventory) invento
 abbrev pub removal : ℕ → Inventory → Data
 removal id inventory = object (members_of ((codes "epoch", natural (suc inventory.epoch)) ∷ (codes "removed", natural id) ∷ []))
 
-abbrev pub on_pool : ℕ → Inventory → Option TenantPool → Result Accepted Problem
+abbrev pub on_pool : ℕ → Inventory → Option TenantPool → Result Acceptance Problem
 on_pool id inventory None = Err NoPool
 on_pool id inventory (Some p) = Ok (record { made = RemovedPool id; status = Done; body = removal id inventory })
 
-abbrev pub removed : ℕ → Inventory → Result Accepted Problem
+abbrev pub removed : ℕ → Inventory → Result Acceptance Problem
 removed id inventory = on_pool id inventory (pool id inventory)

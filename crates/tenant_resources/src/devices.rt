@@ -12,7 +12,7 @@ ghost use Rattle.tenant_messages.specs.Refusals.{Gives};
 ghost use Rattle.tenant_resources.specs.Devices as spec;
 ghost use Rattle.tenant_resources.specs.Orders.{accepted_of};
 
-use crate::accepted::Accepted;
+use crate::accepted::Acceptance;
 use crush_choose::FULL;
 use crush_map::limits::NUMBER_LIMIT;
 use crush_map::{Listed, Text};
@@ -23,7 +23,7 @@ use tenant_messages::{
     Problem, Refusal, SuccessStatus, has_keys, natural, optional_boolean, optional_natural,
     request_number,
 };
-use tenant_state::{Devices, Inventory, Made, Version};
+use tenant_state::{Devices, Inventory, Product, Version};
 
 // ---- the body
 
@@ -174,7 +174,7 @@ pub fn change_devices(
     alloc: Global,
     changes: &[DeviceChange],
     inventory: &Inventory,
-) -> Result<Accepted, Refusal>
+) -> Result<Acceptance, Refusal>
     requires { inventory.now.epoch < 2 ^ 32 }
     ensures given { Gives accepted_of result (spec.devices_changed changes.now inventory.now) }
     ensures plain { IfOk result (λ a. has_float (view a.body) ≡ false) }
@@ -186,8 +186,8 @@ pub fn change_devices(
         return Err(Refusal::Problem(Problem::NoDevice));
     }
     let states = all_changed(alloc, inventory.devices(), changes)?;
-    Ok(Accepted {
-        made: Made::States(Listed::new(states)),
+    Ok(Acceptance {
+        made: Product::States(Listed::new(states)),
         status: SuccessStatus::Done,
         body: devices_reply(alloc, changes.len(), inventory)?,
     })

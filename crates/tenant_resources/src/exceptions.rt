@@ -12,7 +12,7 @@ ghost use Rattle.tenant_messages.specs.Slots.{list_json};
 ghost use Rattle.tenant_resources.specs.Exceptions as spec;
 ghost use Rattle.tenant_resources.specs.Orders.{accepted_of};
 
-use crate::accepted::Accepted;
+use crate::accepted::Acceptance;
 use crate::devices::has_device;
 use crush_map::{Listed, Text};
 use crush_pool::limits::{GROUP_LIMIT, POOL_ID_LIMIT};
@@ -22,7 +22,7 @@ use std::alloc::{AllocError, Global};
 use tenant_messages::{
     Problem, Refusal, Reply, SuccessStatus, has_keys, natural, request_number, success,
 };
-use tenant_state::{Inventory, Made, TenantPool, Version};
+use tenant_state::{Inventory, Product, TenantPool, Version};
 
 // ---- the body
 
@@ -124,7 +124,7 @@ pub fn set(
     id: u32,
     pairs: &[Pair],
     inventory: &Inventory,
-) -> Result<Accepted, Refusal>
+) -> Result<Acceptance, Refusal>
     requires { inventory.now.epoch < 2 ^ 32 }
     ensures given { Gives accepted_of result (spec.exceptions_set id pairs.now inventory.now) }
     ensures plain { IfOk result (λ a. has_float (view a.body) ≡ false) }
@@ -137,8 +137,8 @@ pub fn set(
     if !has_devices(version, pairs) {
         return Err(Refusal::Problem(Problem::NoDevice));
     }
-    Ok(Accepted {
-        made: Made::Exceptions(id, exceptions),
+    Ok(Acceptance {
+        made: Product::Exceptions(id, exceptions),
         status: SuccessStatus::Done,
         body: setting(alloc, id, pairs, inventory)?,
     })

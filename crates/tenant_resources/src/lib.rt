@@ -12,6 +12,6 @@ pub mod maps;
 pub mod pools;
 pub mod rule_tests;
 
-pub use accepted::Accepted;
+pub use accepted::Acceptance;
 pub use groups::ObjectName;
 pub use rule_tests::RuleTest;

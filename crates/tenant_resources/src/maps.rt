@@ -9,7 +9,7 @@ ghost use Rattle.tenant_resources.specs.Orders.{accepted_of};
 ghost use Rattle.tenant_messages.specs.Reading.{Reads};
 ghost use Rattle.tenant_messages.specs.Refusals.{Answers, Gives};
 
-use crate::accepted::Accepted;
+use crate::accepted::Acceptance;
 use crush_map::Text;
 use crush_text::{read_map, texts_are_read_as_they_say};
 use serde_json::{Value, json};
@@ -18,7 +18,7 @@ use tenant_messages::{
     Problem, Refusal, Reply, SuccessStatus, has_keys, request_number, success, text,
 };
 use tenant_state::limits::VERSION_LIMIT;
-use tenant_state::{Inventory, Made, Version};
+use tenant_state::{Inventory, Product, Version};
 
 // ---- the body of an import
 
@@ -49,7 +49,7 @@ fn import_reply(alloc: Global, inventory: &Inventory) -> Result<Value, AllocErro
 /// Accepts a map's text as a new version, with the reply. The problem is, in this order,
 /// `TenantLimit` where there are `VERSION_LIMIT` versions already, `MapRefused` with the text's
 /// first fault, or `RuleInUse` where the new map lacks the rule of a pool.
-pub fn import(alloc: Global, text: &str, inventory: &Inventory) -> Result<Accepted, Refusal>
+pub fn import(alloc: Global, text: &str, inventory: &Inventory) -> Result<Acceptance, Refusal>
     requires { inventory.now.epoch < 2 ^ 32 }
     ensures given { Gives accepted_of result (spec.imported text.now inventory.now) }
     ensures plain { IfOk result (λ a. has_float (view a.body) ≡ false) }
@@ -65,8 +65,8 @@ pub fn import(alloc: Global, text: &str, inventory: &Inventory) -> Result<Accept
                 return Err(Refusal::Problem(Problem::RuleInUse));
             }
             let version = Version::shared(alloc, map)?;
-            Ok(Accepted {
-                made: Made::Version(version),
+            Ok(Acceptance {
+                made: Product::Version(version),
                 status: SuccessStatus::Created,
                 body: import_reply(alloc, inventory)?,
             })

@@ -12,7 +12,7 @@ ghost use Rattle.tenant_resources.specs.Pools as spec;
 ghost use Rattle.tenant_resources.specs.Orders.{accepted_of};
 ghost use Rattle.tenant_state.specs.State as state;
 
-use crate::accepted::Accepted;
+use crate::accepted::Acceptance;
 use crush_map::Text;
 use crush_pool::limits::POOL_ID_LIMIT;
 use crush_pool::{Pool, PoolParts, rule_with_id};
@@ -23,7 +23,7 @@ use tenant_messages::{
     Problem, Refusal, SuccessStatus, boolean, has_keys, natural, request_number, text,
 };
 use tenant_state::limits::POOL_LIMIT;
-use tenant_state::{Inventory, Made, Pools, TenantPool};
+use tenant_state::{Inventory, Pools, Product, TenantPool};
 
 // ---- the body of a creation
 
@@ -185,7 +185,7 @@ fn shared(alloc: Global, pool: &Pool) -> Result<Rc<Pool>, AllocError>
 /// Accepts one more pool, with the reply. The problem is, in this order, `NoVersion`, `NoRule`
 /// where the newest version lacks the pool's rule, `Exists` where a pool has the id or the name, or
 /// `TenantLimit` where there are `POOL_LIMIT` pools already.
-pub fn create(alloc: Global, pool: &Pool, inventory: &Inventory) -> Result<Accepted, Refusal>
+pub fn create(alloc: Global, pool: &Pool, inventory: &Inventory) -> Result<Acceptance, Refusal>
     requires { inventory.now.epoch < 2 ^ 32 }
     ensures given { Gives accepted_of result (spec.created pool.now inventory.now) }
     ensures plain { IfOk result (λ a. has_float (view a.body) ≡ false) }
@@ -203,8 +203,8 @@ pub fn create(alloc: Global, pool: &Pool, inventory: &Inventory) -> Result<Accep
     if inventory.pools().len() >= POOL_LIMIT {
         return Err(Refusal::Problem(Problem::TenantLimit));
     }
-    Ok(Accepted {
-        made: Made::Pool(shared(alloc, pool)?),
+    Ok(Acceptance {
+        made: Product::Pool(shared(alloc, pool)?),
         status: SuccessStatus::Created,
         body: creation(alloc, parts.id, inventory)?,
     })
@@ -222,7 +222,7 @@ fn removal(alloc: Global, id: u32, inventory: &Inventory) -> Result<Value, Alloc
 
 /// Accepts the removal of the pool that has `id`, with the reply. The problem is `NoPool`, where
 /// there is no such pool.
-pub fn remove(alloc: Global, id: u32, inventory: &Inventory) -> Result<Accepted, Refusal>
+pub fn remove(alloc: Global, id: u32, inventory: &Inventory) -> Result<Acceptance, Refusal>
     requires { inventory.now.epoch < 2 ^ 32 }
     ensures given { Gives accepted_of result (spec.removed id inventory.now) }
     ensures plain { IfOk result (λ a. has_float (view a.body) ≡ false) }
@@ -230,8 +230,8 @@ pub fn remove(alloc: Global, id: u32, inventory: &Inventory) -> Result<Accepted,
     if inventory.pools().get(u64::from(id)).is_none() {
         return Err(Refusal::Problem(Problem::NoPool));
     }
-    Ok(Accepted {
-        made: Made::NoPool(id),
+    Ok(Acceptance {
+        made: Product::NoPool(id),
         status: SuccessStatus::Done,
         body: removal(alloc, id, inventory)?,
     })

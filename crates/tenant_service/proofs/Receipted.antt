@@ -16,7 +16,7 @@ use Rattle.tenant_core.specs.tenant_messages.specs.declared.call.Call.{Call}
 use Rattle.tenant_core.specs.tenant_messages.specs.declared.reply.Problem.{Problem}
 use Rattle.tenant_core.specs.tenant_messages.specs.declared.reply.Problem.TheVariants.{TenantLimit}
 use Rattle.tenant_core.specs.tenant_messages.specs.declared.reply.Reply.{Reply}
-use Rattle.tenant_core.specs.tenant_resources.specs.Orders.{Accepted}
+use Rattle.tenant_core.specs.tenant_resources.specs.Orders.{Acceptance}
 use Rattle.tenant_core.specs.tenant_state.proofs.Counting.{same_bytes}
 use Rattle.tenant_core.specs.tenant_state.specs.Receipts.{receipt_of}
 use Rattle.tenant_core.specs.tenant_state.specs.State.{Change, TenantState, after, epoch, inventory_of}
@@ -28,7 +28,7 @@ use Rattle.tenant_core.specs.tenant_state.specs.declared.receipts.Receipt.{Recei
 Acts : Decided → Type 0
 Acts d = (d.effect ≡ effect.Keep) ⊎ ((c : Change) × (d.effect ≡ effect.Change c))
 
-acts_order : (k : Command) (a : Result Accepted Problem) → Acts (change_or_refusal k a)
+acts_order : (k : Command) (a : Result Acceptance Problem) → Acts (change_or_refusal k a)
 unfolding Acts
 acts_order k (Ok a) = inr (_, refl)
 acts_order k (Err problem) = inl refl

@@ -14,7 +14,7 @@ use Rattle.tenant_state.proofs.Receiving.{all_received, ascending_received}
 use Rattle.tenant_state.proofs.Staying.{all_with, all_without, ascending_with, ascending_without, both_true, fewer_without, more_with}
 use Rattle.tenant_state.specs.Ordered.{is_ascending}
 use Rattle.tenant_state.specs.Receipts.{Receipts, with_receipt}
-use Rattle.tenant_state.specs.State.{CanMake, CanTake, Change, Inventory, Made, NewExceptions, NewPool, NewStates, NewVersion, RemovedPool, TenantPool, TenantState, after, fresh, have_rules, inventory_after, inventory_of, is_lower_device, newest, rule_of, suits, version, with_made, with_receipts, with_states, with_state}
+use Rattle.tenant_state.specs.State.{CanMake, CanTake, Change, Inventory, Product, NewExceptions, NewPool, NewStates, NewVersion, RemovedPool, TenantPool, TenantState, after, fresh, have_rules, inventory_after, inventory_of, is_lower_device, newest, rule_of, suits, version, with_made, with_receipts, with_states, with_state}
 use Rattle.tenant_state.specs.Valid.{IsChange, IsInventory, IsMade, IsState, are_named_once, is_device_state, is_receipt, is_tenant_pool}
 use Rattle.tenant_state.specs.declared.limits.TheConstants.{POOL_LIMIT, VERSION_LIMIT}
 
@@ -50,7 +50,7 @@ states_in_order : (changed states : List DeviceState) → is_ascending is_lower_
 states_in_order [] states h = h
 states_in_order (c ∷ cs) states h = states_in_order cs (with_state states c) (ascending_with (λ s. s.device) c states h)
 
-pub taken_suits : (m : Made) (i : Inventory) → CanTake m i → suits m i ≡ true
+pub taken_suits : (m : Product) (i : Inventory) → CanTake m i → suits m i ≡ true
 taken_suits (NewVersion m) i can = refl
 taken_suits (NewStates changed) i can = refl
 taken_suits (NewPool p) i can = refl
@@ -61,7 +61,7 @@ taken_suits (RemovedPool id) i can = refl
 new_in_range : (p : PoolParts) → is_pool p ≡ true → is_tenant_pool (record { parts = p; pairs = [] }) ≡ true
 new_in_range p is = rw is refl
 
-pub inventory_stays : (m : Made) (i : Inventory) → IsMade m → suits m i ≡ true → IsInventory i → IsInventory (with_made m i)
+pub inventory_stays : (m : Product) (i : Inventory) → IsMade m → suits m i ≡ true → IsInventory i → IsInventory (with_made m i)
 inventory_stays (NewVersion m) i made fits is =
     record { maps = All-push IsMap i.versions m is.maps made; devices = is.devices; device_order = is.device_order; pools = is.pools; pool_order = is.pool_order }
 inventory_stays (NewStates changed) i made fits is = record {
@@ -94,7 +94,7 @@ inventory_stays (RemovedPool id) i made fits is = record {
 }
 
 -- the same of its parts
-pub parts_stay : (m : Made) (i : Inventory) (versions : List Map) (devices : List DeviceState) (pools : List TenantPool) (epoch : ℕ) → versions ≡ (with_made m i).versions
+pub parts_stay : (m : Product) (i : Inventory) (versions : List Map) (devices : List DeviceState) (pools : List TenantPool) (epoch : ℕ) → versions ≡ (with_made m i).versions
     → devices ≡ (with_made m i).devices → pools ≡ (with_made m i).pools → IsMade m → suits m i ≡ true → IsInventory i
     → IsInventory (record { versions = versions; devices = devices; pools = pools; epoch = epoch })
 parts_stay m i versions devices pools epoch v d p made fits is =
@@ -110,28 +110,28 @@ has_same i receipts is = record { maps = is.maps; devices = is.devices; device_o
 
 -- ---- limits, names and rules, where it can be taken
 
-versions_stay : (m : Made) (i : Inventory) → CanTake m i → length i.versions ≤ VERSION_LIMIT → length (with_made m i).versions ≤ VERSION_LIMIT
+versions_stay : (m : Product) (i : Inventory) → CanTake m i → length i.versions ≤ VERSION_LIMIT → length (with_made m i).versions ≤ VERSION_LIMIT
 versions_stay (NewVersion m) i can few = let more = longer i.versions m in let room = can.room in omega (arith, more, room)
 versions_stay (NewStates changed) i can few = few
 versions_stay (NewPool p) i can few = few
 versions_stay (NewExceptions id pairs) i can few = few
 versions_stay (RemovedPool id) i can few = few
 
-pools_stay : (m : Made) (i : Inventory) → CanTake m i → length i.pools ≤ POOL_LIMIT → length (with_made m i).pools ≤ POOL_LIMIT
+pools_stay : (m : Product) (i : Inventory) → CanTake m i → length i.pools ≤ POOL_LIMIT → length (with_made m i).pools ≤ POOL_LIMIT
 pools_stay (NewVersion m) i can few = few
 pools_stay (NewStates changed) i can few = few
 pools_stay (NewPool p) i can few = let more = more_with (λ (q : TenantPool). q.parts.id) (record { parts = p; pairs = [] }) i.pools in let room = can.room in omega (arith, more, room)
 pools_stay (NewExceptions id pairs) i can few = rw (as_many_paired id pairs i.pools) few
 pools_stay (RemovedPool id) i can few = let less = fewer_without (λ (q : TenantPool). q.parts.id) id i.pools in omega (arith, less, few)
 
-names_stay : (m : Made) (i : Inventory) → CanTake m i → are_named_once i.pools ≡ true → are_named_once (with_made m i).pools ≡ true
+names_stay : (m : Product) (i : Inventory) → CanTake m i → are_named_once i.pools ≡ true → are_named_once (with_made m i).pools ≡ true
 names_stay (NewVersion m) i can once = once
 names_stay (NewStates changed) i can once = once
 names_stay (NewPool p) i can once = named_with (record { parts = p; pairs = [] }) i.pools can.new once
 names_stay (NewExceptions id pairs) i can once = rw (named_paired id pairs i.pools) once
 names_stay (RemovedPool id) i can once = named_without id i.pools once
 
-pub rules_stay : (m : Made) (i : Inventory) → CanTake m i → have_rules i ≡ true → have_rules (with_made m i) ≡ true
+pub rules_stay : (m : Product) (i : Inventory) → CanTake m i → have_rules i ≡ true → have_rules (with_made m i) ≡ true
 rules_stay (NewVersion m) i can had = let new = newest_is i.versions m (with_made (NewVersion m) i) refl in rw new can.rules
 rules_stay (NewStates changed) i can had = had
 rules_stay (NewPool p) i can had = all_with (λ q. is_some (rule_of i q.parts)) (λ q. q.parts.id) (record { parts = p; pairs = [] }) i.pools can.rule had
@@ -170,7 +170,7 @@ state_stays c s change can is =
 -- ---- a state by its parts
 
 -- the epoch is no part of a state
-same_made : (m : Made) (i : Inventory) (n k : ℕ) (receipts : Receipts) → with_receipts (record (with_made m i) { epoch = n }) receipts ≡ with_receipts (with_made m (record i { epoch = k })) receipts
+same_made : (m : Product) (i : Inventory) (n k : ℕ) (receipts : Receipts) → with_receipts (record (with_made m i) { epoch = n }) receipts ≡ with_receipts (with_made m (record i { epoch = k })) receipts
 same_made (NewVersion m) i n k receipts = refl
 same_made (NewStates changed) i n k receipts = refl
 same_made (NewPool p) i n k receipts = refl

@@ -118,20 +118,20 @@ on_newest inventory p = if_there inventory p (version (newest inventory) invento
 -- ---- changes
 
 -- what is made anew
-pub data Made : Type 0 where
-  NewVersion : Map → Made  -- one more version, with this map
-  NewStates : List DeviceState → Made  -- these states of devices
-  NewPool : PoolParts → Made  -- one more pool, with no pairs
-  NewExceptions : ℕ → List Pair → Made  -- the pool with this id has these pairs, and no others
-  RemovedPool : ℕ → Made  -- the pool with this id is removed, with its pairs
+pub data Product : Type 0 where
+  NewVersion : Map → Product  -- one more version, with this map
+  NewStates : List DeviceState → Product  -- these states of devices
+  NewPool : PoolParts → Product  -- one more pool, with no pairs
+  NewExceptions : ℕ → List Pair → Product  -- the pool with this id has these pairs, and no others
+  RemovedPool : ℕ → Product  -- the pool with this id is removed, with its pairs
 
 -- an accepted change: what it makes, and the receipt that it leaves under its request number
 pub record Change : Type 0 where
   pub number : List ℕ
   pub receipt : Receipt
-  pub made : Made
+  pub made : Product
 
-abbrev pub with_made : Made → Inventory → Inventory
+abbrev pub with_made : Product → Inventory → Inventory
 with_made (NewVersion m) inventory = record inventory { versions = inventory.versions ++ m ∷ [] }
 with_made (NewStates changed) inventory = record inventory { devices = with_states changed inventory.devices }
 with_made (NewPool p) inventory = record inventory { pools = with_element (λ p. p.parts.id) (record { parts = p; pairs = [] }) inventory.pools }
@@ -172,7 +172,7 @@ can_have pairs None = false
 can_have pairs (Some p) = are_pairs p.parts.pg_num pairs
 
 -- whether what is made suits what the tenant has: pairs suit the pool that they are for
-abbrev pub suits : Made → Inventory → Bool
+abbrev pub suits : Product → Inventory → Bool
 suits (NewVersion m) inventory = true
 suits (NewStates changed) inventory = true
 suits (NewPool p) inventory = true
@@ -180,7 +180,7 @@ suits (NewExceptions id pairs) inventory = can_have pairs (pool id inventory)
 suits (RemovedPool id) inventory = true
 
 -- what a tenant has can take what is made; a pool that is removed is there
-abbrev pub CanTake : Made → Inventory → Type 0
+abbrev pub CanTake : Product → Inventory → Type 0
 CanTake (NewVersion m) inventory = CanTakeVersion m inventory
 CanTake (NewStates changed) inventory = Unit {0}
 CanTake (NewPool p) inventory = CanTakePool p inventory

@@ -12,7 +12,7 @@ use Rattle.crush_pool.specs.declared.states.DeviceState.{DeviceState}
 use Rattle.tenant_messages.specs.Numbers.{has_length}
 use Rattle.tenant_state.specs.Ordered.{is_ascending}
 use Rattle.tenant_state.specs.Receipts.{is_before}
-use Rattle.tenant_state.specs.State.{Change, Inventory, Made, NewExceptions, NewPool, NewStates, NewVersion, RemovedPool, TenantPool, TenantState, have_rules, inventory_of, is_lower_device, is_lower_pool}
+use Rattle.tenant_state.specs.State.{Change, Inventory, Product, NewExceptions, NewPool, NewStates, NewVersion, RemovedPool, TenantPool, TenantState, have_rules, inventory_of, is_lower_device, is_lower_pool}
 use Rattle.tenant_state.specs.declared.limits.TheConstants.{POOL_LIMIT, RECEIPT_LIMIT, VERSION_LIMIT}
 use Rattle.tenant_state.specs.declared.receipts.Receipt.{Receipt}
 
@@ -63,7 +63,7 @@ pub record IsState (s : TenantState) : Type 0 where
 -- ---- changes
 
 -- what is made is in its ranges
-abbrev pub IsMade : Made → Type 0
+abbrev pub IsMade : Product → Type 0
 IsMade (NewVersion m) = IsMap m
 IsMade (NewStates changed) = list_all is_device_state changed ≡ true
 IsMade (NewPool p) = is_pool p ≡ true

@@ -17,6 +17,6 @@ pub use devices::Devices;
 pub use pool::TenantPool;
 pub use pools::Pools;
 pub use receipts::{Receipt, Receipts, is_repeat};
-pub use state::{Change, Inventory, Made, TenantState};
+pub use state::{Change, Inventory, Product, TenantState};
 pub use version::Version;
 pub use versions::Versions;

@@ -18,7 +18,7 @@ use tenant_messages::Problem;
 
 /// What a change makes anew.
 #[derive(Drop)]
-pub enum Made {
+pub enum Product {
     /// One more version.
     Version(Rc<Version>),
     /// These states of devices, each in place of the one that was stored of the same device.
@@ -37,7 +37,7 @@ pub enum Made {
 pub struct Change {
     pub number: Text,
     pub receipt: Rc<Receipt>,
-    pub made: Made,
+    pub made: Product,
 }
 
 impl Model for Change {
@@ -233,11 +233,11 @@ impl Inventory {
 
     /// Returns whether `made` suits the inventory: exceptions suit the pool that they are for,
     /// which is there, and everything else suits. Takes time linear in the number of exceptions.
-    pub fn suits(&self, made: &Made) -> bool
+    pub fn suits(&self, made: &Product) -> bool
         ensures { result ≡ spec.suits (made_of made.now) self.now }
     {
         match made {
-            Made::Exceptions(id, exceptions) => match self.pools.get(u64::from(*id)) {
+            Product::Exceptions(id, exceptions) => match self.pools.get(u64::from(*id)) {
                 Some(pool) => pool.can_have(exceptions),
                 None => false,
             },
@@ -268,24 +268,24 @@ impl Inventory {
         let mut next = self.copy()?;
         next.epoch += 1;
         match &change.made {
-            Made::Version(version) => {
+            Product::Version(version) => {
                 next.versions = next.versions.with(alloc, version)?;
                 Ok(next)
             }
-            Made::States(changed) => {
+            Product::States(changed) => {
                 let devices = next.devices.with(alloc, changed.as_slice())?;
                 next.devices = Rc::new(alloc, devices)?;
                 Ok(next)
             }
-            Made::Pool(pool) => {
+            Product::Pool(pool) => {
                 next.pools = next.pools.with(alloc, pool)?;
                 Ok(next)
             }
-            Made::Exceptions(id, exceptions) => {
+            Product::Exceptions(id, exceptions) => {
                 next.pools = next.pools.with_exceptions(alloc, *id, exceptions)?;
                 Ok(next)
             }
-            Made::NoPool(id) => {
+            Product::NoPool(id) => {
                 next.pools = next.pools.without(*id)?;
                 Ok(next)
             }

@@ -8,11 +8,11 @@ use std::alloc::Global;
 use std::collections::BTreeMap;
 
 /// The number of versions of each tenant whose receipts were judged, by its name.
-pub type Judged = BTreeMap<String, u64>;
+pub type JudgedVersions = BTreeMap<String, u64>;
 
 /// Remembers that the tenant with the name has `versions` versions. Where there is no memory for
 /// it, nothing is changed.
-pub fn remember(alloc: Global, judged: &mut Judged, name: &str, versions: u64)
+pub fn remember(alloc: Global, judged: &mut JudgedVersions, name: &str, versions: u64)
     ensures { Adds name.now versions (get_by_text judged.old) (get_by_text judged.new) }
 {
     if let Ok(key) = String::from_str(alloc, name) {
@@ -21,7 +21,7 @@ pub fn remember(alloc: Global, judged: &mut Judged, name: &str, versions: u64)
 }
 
 /// Sets the number of versions of the name, if the name is there. Allocates nothing.
-pub fn update(judged: &mut Judged, name: &str, versions: u64)
+pub fn update(judged: &mut JudgedVersions, name: &str, versions: u64)
     ensures { Updates name.now versions (get_by_text judged.old) (get_by_text judged.new) }
 {
     if let Some(count) = judged.get_mut(name) {
@@ -30,7 +30,7 @@ pub fn update(judged: &mut Judged, name: &str, versions: u64)
 }
 
 /// Forgets the name. Allocates nothing.
-pub fn forget(judged: &mut Judged, name: &str)
+pub fn forget(judged: &mut JudgedVersions, name: &str)
     ensures { Forgets name.now (get_by_text judged.old) (get_by_text judged.new) }
 {
     let _versions = judged.remove(name);

@@ -11,7 +11,7 @@ mod writing;
 
 pub use store::Store;
 pub use table_schema::rows::{PoolRow, ReceiptRow, VersionRow};
-pub use table_schema::values::{Exception, State};
+pub use table_schema::values::{ExceptionRow, StateRow};
 pub use tenant_core::{StoreFault, TenantStore};
 pub use tenant_tables::from_rows;
 pub use watch::Watch;

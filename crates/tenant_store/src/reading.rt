@@ -21,22 +21,22 @@ ghost use Rattle.tenant_tables.specs.Lists.{IsOfState};
 ghost use Rattle.tenant_tables.specs.Rows.{StandsFor, row_of_receipt};
 ghost use Rattle.tenant_store.specs.Judged.{AreJudged};
 
-use crate::judged::{Judged, remember};
+use crate::judged::{JudgedVersions, remember};
 use sqlite::Alter;
 use std::alloc::Global;
 use std::rc::Rc;
 use table_schema::find::Tenant;
 use table_schema::rows::ReceiptRow;
 use tenant_core::{Inventory, Receipt, StoreFault};
-use tenant_tables::tables::Tables;
+use tenant_tables::tables::TenantTables;
 use tenant_tables::{judge_receipts, read_inventory, receipt_from};
 
 /// Judges the receipts of `tenant`, unless those of its name were judged, and remembers that they
 /// were. The tenant has `versions` versions.
 fn judge<S: Alter>(
     alloc: Global,
-    tables: &mut Tables<S>,
-    judged: &mut Judged,
+    tables: &mut TenantTables<S>,
+    judged: &mut JudgedVersions,
     name: &str,
     tenant: &Tenant,
     versions: u64,
@@ -63,8 +63,8 @@ fn judge<S: Alter>(
 /// Reads what `tenant` has, and judges its receipts, unless those of its name were judged.
 fn load_tenant<S: Alter>(
     alloc: Global,
-    tables: &mut Tables<S>,
-    judged: &mut Judged,
+    tables: &mut TenantTables<S>,
+    judged: &mut JudgedVersions,
     name: &str,
     tenant: &Tenant,
 ) -> Result<Rc<Inventory>, StoreFault>
@@ -86,8 +86,8 @@ fn load_tenant<S: Alter>(
 /// Reads what the tenant with the name has, or `None` where there is none.
 pub fn load<S: Alter>(
     alloc: Global,
-    tables: &mut Tables<S>,
-    judged: &mut Judged,
+    tables: &mut TenantTables<S>,
+    judged: &mut JudgedVersions,
     name: &str,
 ) -> Result<Option<Rc<Inventory>>, StoreFault>
     requires live { tables.old.1 ≡ false }
@@ -125,7 +125,7 @@ fn receipt_in(alloc: Global, row: Option<ReceiptRow>) -> Result<Option<Rc<Receip
 
 /// Reads the row of the tenant with the name. `Err(StoreFault::Damaged)`: there is no tenant with
 /// it, several rows have it, or its row is none that this service writes.
-pub fn tenant_of<S: Alter>(tables: &mut Tables<S>, name: &str) -> Result<Tenant, StoreFault>
+pub fn tenant_of<S: Alter>(tables: &mut TenantTables<S>, name: &str) -> Result<Tenant, StoreFault>
     requires live { tables.old.1 ≡ false }
     requires there { HasCleanDisk (state S.Store tables.old.0) → IsReady (state S.Store tables.old.0) → (s : TenantState) × StandsFor (state S.Store tables.old.0).now.trees name.now (Some s) }
     ensures ready { HasCleanDisk (state S.Store tables.old.0) → IsReady (state S.Store tables.old.0) }
@@ -145,7 +145,7 @@ pub fn tenant_of<S: Alter>(tables: &mut Tables<S>, name: &str) -> Result<Tenant,
 /// where there is none.
 pub fn find_receipt<S: Alter>(
     alloc: Global,
-    tables: &mut Tables<S>,
+    tables: &mut TenantTables<S>,
     name: &str,
     number: &str,
 ) -> Result<Option<Rc<Receipt>>, StoreFault>
@@ -166,8 +166,8 @@ pub fn find_receipt<S: Alter>(
 /// Returns the number of versions of `tenant`: as it was remembered, or else by its rows.
 pub fn count_versions<S: Alter>(
     alloc: Global,
-    tables: &mut Tables<S>,
-    judged: &Judged,
+    tables: &mut TenantTables<S>,
+    judged: &JudgedVersions,
     name: &str,
     tenant: &Tenant,
 ) -> Result<u64, StoreFault>

@@ -12,7 +12,7 @@ ghost use Rattle.tenant_tables.specs.Rows.{StandsFor, StatesIn};
 ghost use Rattle.tenant_store.specs.Replaced.{Replaces};
 ghost use Rattle.tenant_store.specs.Shown.{IsHonest};
 
-use crate::judged::{Judged, forget};
+use crate::judged::{JudgedVersions, forget};
 use crate::reading::{find_receipt, load};
 use crate::writing::{commit, remove};
 use sqlite::{Alter, Connection};
@@ -22,7 +22,7 @@ use std::marker::Model;
 use std::rc::Rc;
 use tenant_core::{Change, Inventory, Receipt, StoreFault, TenantStore};
 use tenant_tables::laws::names_stand_for_one_state;
-use tenant_tables::tables::Tables;
+use tenant_tables::tables::TenantTables;
 
 /// Tenants in the tables of a database. Contracts see the connection, and whether a call has failed
 /// for good.
@@ -33,8 +33,8 @@ use tenant_tables::tables::Tables;
 #[derive(Drop)]
 pub struct Store<S: Alter> {
     alloc: Global,
-    tables: Tables<S>,
-    judged: Judged,
+    tables: TenantTables<S>,
+    judged: JudgedVersions,
 }
 
 impl<S: Alter> Model for Store<S> {
@@ -83,7 +83,7 @@ impl<S: Alter + Drop> Store<S> {
             → (state S.Store conn).may_leave trees ⊎ Replaces (state S.Store conn).now trees) }
     {
         names_stand_for_one_state();
-        match Tables::open(alloc, conn) {
+        match TenantTables::open(alloc, conn) {
             Ok(tables) => Ok(Store {
                 alloc,
                 tables,

@@ -9,7 +9,7 @@ ghost use Rattle.tenant_store.specs.Looks.{FindsFiles, next_look};
 use crate::watch::Watch;
 use std::marker::Model;
 use std::rc::Rc;
-use tenant_core::{Cached, Change, Inventory, Query, Receipt, StoreFault, TenantStore};
+use tenant_core::{CachedAnswer, Change, Inventory, Query, Receipt, StoreFault, TenantStore};
 
 /// A store over another one. A change is made only where the files of the store below are where
 /// they were, and answered as made only where they still are: else the store fails for good. So no
@@ -119,7 +119,11 @@ impl<T: TenantStore, W: Watch> TenantStore for WatchedStore<T, W> {
         self.below.find_receipt(name, number)
     }
 
-    fn cached<'q>(&mut self, name: &str, query: &'q Query) -> Option<(Rc<Inventory>, Cached<'q>)> {
+    fn cached<'q>(
+        &mut self,
+        name: &str,
+        query: &'q Query,
+    ) -> Option<(Rc<Inventory>, CachedAnswer<'q>)> {
         self.below.cached(name, query)
     }
 

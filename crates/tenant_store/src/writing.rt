@@ -11,12 +11,12 @@ ghost use Rattle.tenant_tables.specs.Changes.{Turns};
 ghost use Rattle.tenant_tables.specs.Rows.{StandsFor};
 ghost use Rattle.tenant_store.specs.Judged.{AreJudged};
 
-use crate::judged::{Judged, update};
+use crate::judged::{JudgedVersions, update};
 use crate::reading::{count_versions, tenant_of};
 use sqlite::Alter;
 use std::alloc::Global;
-use tenant_core::{Change, Made, StoreFault};
-use tenant_tables::tables::Tables;
+use tenant_core::{Change, Product, StoreFault};
+use tenant_tables::tables::TenantTables;
 use tenant_tables::write_change;
 
 /// Returns the number of versions after `change`, where there were `versions` before.
@@ -24,7 +24,7 @@ fn versions_after(versions: u64, change: &Change) -> u64
     ensures { (s : TenantState) → CanMake change.now s → versions ≡ length s.versions → result ≡ length (after change.now s).versions }
 {
     match &change.made {
-        Made::Version(_) => versions.saturating_add(1),
+        Product::Version(_) => versions.saturating_add(1),
         _ => versions,
     }
 }
@@ -32,8 +32,8 @@ fn versions_after(versions: u64, change: &Change) -> u64
 /// Makes the change of the tenant with the name, which has to be there.
 pub fn commit<S: Alter>(
     alloc: Global,
-    tables: &mut Tables<S>,
-    judged: &mut Judged,
+    tables: &mut TenantTables<S>,
+    judged: &mut JudgedVersions,
     name: &str,
     change: &Change,
 ) -> Result<(), StoreFault>
@@ -58,7 +58,7 @@ pub fn commit<S: Alter>(
 }
 
 /// Removes the tenant with the name, which has to be there, and everything that it has.
-pub fn remove<S: Alter>(tables: &mut Tables<S>, name: &str) -> Result<(), StoreFault>
+pub fn remove<S: Alter>(tables: &mut TenantTables<S>, name: &str) -> Result<(), StoreFault>
     requires live { tables.old.1 ≡ false }
     requires there { HasCleanDisk (state S.Store tables.old.0) → IsReady (state S.Store tables.old.0) → (s : TenantState) × StandsFor (state S.Store tables.old.0).now.trees name.now (Some s) }
     ensures ready { HasCleanDisk (state S.Store tables.old.0) → IsReady (state S.Store tables.old.0) }

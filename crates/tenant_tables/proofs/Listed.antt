@@ -21,8 +21,8 @@ use Rattle.tenant_messages.specs.declared.StoreFault.TheVariants.{Failed}
 use Rattle.table_schema.specs.declared.find.Tenant.{Tenant}
 use Rattle.table_schema.specs.declared.rows.PoolRow.{PoolRow}
 use Rattle.table_schema.specs.declared.rows.VersionRow.{VersionRow}
-use Rattle.table_schema.specs.declared.values.Exception.{Exception}
-use Rattle.table_schema.specs.declared.values.State.{State}
+use Rattle.table_schema.specs.declared.values.ExceptionRow.{ExceptionRow}
+use Rattle.table_schema.specs.declared.values.StateRow.{StateRow}
 use Rattle.tenant_tables.specs.Changes.{HasRows}
 use Rattle.tenant_tables.specs.Lists.{IsOfState, AreRowsOf}
 use Rattle.tenant_tables.specs.Reads.{ChangesNoRow}
@@ -59,14 +59,14 @@ same_fault r x f g is same answer =
 
 -- ---- what a tenant has is listed
 
-pub record AreListed (db : Trees) (id : ℤ) (versions : List VersionRow) (states : List State) (pools : List PoolRow) (exceptions : List Exception) : Type 0 where
+pub record AreListed (db : Trees) (id : ℤ) (versions : List VersionRow) (states : List StateRow) (pools : List PoolRow) (exceptions : List ExceptionRow) : Type 0 where
   pub versions_are : Lists (of_tenant maps_table id db) (map version_values versions)
   pub states_are : Lists (of_tenant devices_table id db) (map state_row states)
   pub pools_are : Lists (of_tenant pools_table id db) (map pool_values pools)
   pub exceptions_are : ListsBy Precedes (of_tenant exceptions_table id db) (map exception_row exceptions)
 
 -- calls that answered list them, one after another
-pub listed_by : {S A B C : Type 0} (g : Ghosts S) (x : A) (y : B) (z : C) (first one two three : Held S × Bool) (m n : ℤ) (versions : List VersionRow) (states : List State) (pools : List PoolRow) (exceptions : List Exception) → m ≡ n
+pub listed_by : {S A B C : Type 0} (g : Ghosts S) (x : A) (y : B) (z : C) (first one two three : Held S × Bool) (m n : ℤ) (versions : List VersionRow) (states : List StateRow) (pools : List PoolRow) (exceptions : List ExceptionRow) → m ≡ n
     → ChangesNoRow g (Ok x) first one → ChangesNoRow g (Ok y) one two → ChangesNoRow g (Ok z) two three → HasCleanDisk (state g three.0)
     → (HasCleanDisk (state g one.0) → Lists (of_tenant maps_table m (state g first.0).now.trees) (map version_values versions))
     → (HasCleanDisk (state g two.0) → Lists (of_tenant devices_table m (state g one.0).now.trees) (map state_row states))
@@ -110,7 +110,7 @@ module _ (db : Trees) (tenant : Tenant) (i : Inventory) (is : IsOfState i) (has 
   not_exceptions none = none (rows_of_exceptions i.pools) (are_exceptions i.pools) exceptions_listed
 
   -- and what the queries list are its rows
-  pub are_its_rows : (versions : List VersionRow) (states : List State) (pools : List PoolRow) (exceptions : List Exception) → AreListed db tenant.id versions states pools exceptions → AreRowsOf i tenant.epoch versions states pools exceptions
+  pub are_its_rows : (versions : List VersionRow) (states : List StateRow) (pools : List PoolRow) (exceptions : List ExceptionRow) → AreListed db tenant.id versions states pools exceptions → AreRowsOf i tenant.epoch versions states pools exceptions
   are_its_rows versions states pools exceptions it = record {
     epoch_is = has.epoch_is;
     versions_are = one_order _ _ _ it.versions_are.rising versions_listed.rising it.versions_are.same versions_listed.same;
@@ -121,7 +121,7 @@ module _ (db : Trees) (tenant : Tenant) (i : Inventory) (is : IsOfState i) (has 
 
 -- ---- what has the listed rows is the tenant's
 
-pub has_rows_listed : (db : Trees) (tenant : Tenant) (i : Inventory) (versions : List VersionRow) (states : List State) (pools : List PoolRow) (exceptions : List Exception) → AreListed db tenant.id versions states pools exceptions
+pub has_rows_listed : (db : Trees) (tenant : Tenant) (i : Inventory) (versions : List VersionRow) (states : List StateRow) (pools : List PoolRow) (exceptions : List ExceptionRow) → AreListed db tenant.id versions states pools exceptions
     → AreRowsOf i tenant.epoch versions states pools exceptions → HasRows db tenant i
 has_rows_listed db tenant i versions states pools exceptions it are = record {
   epoch_is = are.epoch_is;

@@ -13,8 +13,8 @@ use Rattle.table_schema.specs.Holds.{IsTenant, of_tenant}
 use Rattle.table_schema.specs.Layout.{maps_table, devices_table, pools_table, receipts_table, exceptions_table}
 use Rattle.table_schema.specs.declared.rows.VersionRow.{VersionRow}
 use Rattle.table_schema.specs.declared.rows.PoolRow.{PoolRow}
-use Rattle.table_schema.specs.declared.values.Exception.{Exception}
-use Rattle.table_schema.specs.declared.values.State.{State}
+use Rattle.table_schema.specs.declared.values.ExceptionRow.{ExceptionRow}
+use Rattle.table_schema.specs.declared.values.StateRow.{StateRow}
 use Rattle.tenant_tables.specs.Lists.{AreRowsOf}
 use Rattle.tenant_tables.specs.Rows.{rows_of_versions, row_of_state, row_of_pool, rows_of_exceptions, row_of_receipt, StandsFor}
 use Rattle.tenant_tables.proofs.Orders.{one_order, one_placed, versions_rise, states_rise, pools_rise, exceptions_rise, receipts_rise}
@@ -30,7 +30,7 @@ own_text back m n is other same = inside m n (sym (back m is) ∙ (ap map_of_sto
 
 -- ---- what a tenant has
 
-pub one_inventory : ((m : Map) → IsMap m → map_of_stored_text (canonical m) ≡ Ok m) → (i j : Inventory) (epoch : ℤ) (versions : List VersionRow) (states : List State) (pools : List PoolRow) (exceptions : List Exception) → IsInventory i → IsInventory j
+pub one_inventory : ((m : Map) → IsMap m → map_of_stored_text (canonical m) ≡ Ok m) → (i j : Inventory) (epoch : ℤ) (versions : List VersionRow) (states : List StateRow) (pools : List PoolRow) (exceptions : List ExceptionRow) → IsInventory i → IsInventory j
     → AreRowsOf i epoch versions states pools exceptions → AreRowsOf j epoch versions states pools exceptions → i ≡ j
 one_inventory back i j epoch versions states pools exceptions is other these those =
     let maps = same_versions (own_text back) 1 i.versions j.versions is.maps other.maps (sym these.versions_are ∙ those.versions_are) in

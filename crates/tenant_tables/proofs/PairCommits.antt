@@ -16,16 +16,16 @@ use Rattle.sqlite_trees.proofs.ListLemmas.{IsPermutation-filter}
 use Rattle.crush_pool.specs.Exceptions.{are_pairs, is_pair}
 use Rattle.crush_pool.specs.declared.exceptions.Pair.{Pair}
 use Rattle.crush_pool.specs.declared.limits.TheConstants.{GROUP_LIMIT, PAIR_LIMIT}
-use Rattle.tenant_state.specs.State.{Made, NewExceptions}
+use Rattle.tenant_state.specs.State.{Product, NewExceptions}
 use Rattle.table_schema.specs.Found.{IsPoolRow, Lists, pool_values}
 use Rattle.table_schema.specs.declared.rows.PoolRow.{PoolRow}
 use Rattle.table_schema.specs.Holds.{Holds, of_tenant}
 use Rattle.table_schema.specs.Layout.{pools_table}
 use Rattle.table_schema.specs.Values.{exception_row, pool_row}
-use Rattle.table_schema.specs.declared.values.Exception.{Exception}
-use Rattle.table_schema.specs.declared.values.Pool.{Pool}
+use Rattle.table_schema.specs.declared.values.ExceptionRow.{ExceptionRow}
+use Rattle.table_schema.specs.declared.values.PoolValues.{PoolValues}
 use Rattle.tenant_tables.specs.Change.{Accepts, with_exceptions, with_receipt, without_key}
-use Rattle.tenant_tables.specs.declared.commit.Accepted.{Accepted}
+use Rattle.tenant_tables.specs.declared.commit.CommitHead.{CommitHead}
 use Rattle.tenant_tables.proofs.Orders.{are_pools, one_order, pools_rise}
 use Rattle.tenant_tables.proofs.Keyed.{at_least}
 use Rattle.tenant_tables.proofs.Reading.{first}
@@ -35,7 +35,7 @@ use Rattle.tenant_tables.specs.Commits.{HasPoolsFor, with_count, with_new_pairs}
 use Rattle.tenant_tables.specs.Rows.{row_of_pool, rows_of_pairs}
 
 -- the query of the pools is not refused
-pub not_refused : (old : Trees) (id : ℤ) (m : Made) → HasPoolsFor old id m → ((list : _) → AllByRecursion IsPoolRow list → ¬ Lists (of_tenant pools_table id old) list) → ⊥
+pub not_refused : (old : Trees) (id : ℤ) (m : Product) → HasPoolsFor old id m → ((list : _) → AllByRecursion IsPoolRow list → ¬ Lists (of_tenant pools_table id old) list) → ⊥
 not_refused old id m made none = none (map row_of_pool made.i.pools) (are_pools made.i.pools made.has.pools) (record { same = made.rows; rising = pools_rise made.i.pools made.has.pool_order })
 
 -- pairs are not too many
@@ -44,12 +44,12 @@ few_pairs pairs shown same h =
     subst (λ l. length l ≤ PAIR_LIMIT) (sym same) (at_least (length pairs) PAIR_LIMIT (first (nat_le (length pairs) PAIR_LIMIT) (list_all (is_pair GROUP_LIMIT) pairs) h))
 
 -- their number as a machine word
-pub count_word : (n pool : ℕ) (es : List Exception) (pairs shown : List Pair) → n ≡ length es → map exception_row es ≡ rows_of_pairs pool 0 shown → shown ≡ pairs → length shown ≤ PAIR_LIMIT → to_z w64 n ≡ pos (length pairs)
+pub count_word : (n pool : ℕ) (es : List ExceptionRow) (pairs shown : List Pair) → n ≡ length es → map exception_row es ≡ rows_of_pairs pool 0 shown → shown ≡ pairs → length shown ≤ PAIR_LIMIT → to_z w64 n ≡ pos (length pairs)
 count_word n pool es pairs shown long rows same few =
     let many : n ≡ length shown = long ∙ (sym (length-map es exception_row) ∙ (ap length rows ∙ as_many pool 0 shown)) in
     let low : n < 9223372036854775808 = omega (arith, many, few) in to_z_pos w64 n low ∙ ap pos (many ∙ ap length same)
 
-pub number_is : (row : PoolRow) (values : Pool) (count : ℤ) → pool_row values ≡ take 8 (pool_values row) ++ Int count ∷ [] → values.id ≡ row.id
+pub number_is : (row : PoolRow) (values : PoolValues) (count : ℤ) → pool_row values ≡ take 8 (pool_values row) ++ Int count ∷ [] → values.id ≡ row.id
 number_is row values count is = cc
 
 module _ (old : Trees) (id : ℤ) (pool : ℕ) (pairs : List Pair) (made : HasPoolsFor old id (NewExceptions pool pairs)) (list : List Row) (listed : Lists (of_tenant pools_table id old) list) where
@@ -64,7 +64,7 @@ module _ (old : Trees) (id : ℤ) (pool : ℕ) (pairs : List Pair) (made : HasPo
       none it.0 (subst (λ l. Has l it.0) (sym are_rows) it.1) it.2
 
   -- what is written in place of it is what is made
-  pub paired : (a : Accepted) → a.id ≡ id → (new : Trees) (row : Row) (values : Pool) (es : List Exception) → Has list row → column row 0 ≡ Int (pos pool) → values.id ≡ pos pool
+  pub paired : (a : CommitHead) → a.id ≡ id → (new : Trees) (row : Row) (values : PoolValues) (es : List ExceptionRow) → Has list row → column row 0 ≡ Int (pos pool) → values.id ≡ pos pool
       → pool_row values ≡ take 8 row ++ Int (pos (length pairs)) ∷ [] → map exception_row es ≡ rows_of_pairs pool 0 pairs → Accepts a (with_exceptions values es) old new → Accepts a (with_new_pairs pool pairs) old new
   paired a own new row values es has key number is are accepts name rows e held at raised =
       let turn = accepts name rows e held at raised in

@@ -15,7 +15,7 @@ use Rattle.crush_pool.specs.declared.pool.PoolParts.{PoolParts}
 use Rattle.tenant_state.specs.State.{TenantPool}
 use Rattle.tenant_state.specs.Valid.{is_tenant_pool}
 use Rattle.table_schema.specs.Values.{exception_row}
-use Rattle.table_schema.specs.declared.values.Exception.{Exception}
+use Rattle.table_schema.specs.declared.values.ExceptionRow.{ExceptionRow}
 use Rattle.table_schema.specs.Found.{pool_values}
 use Rattle.table_schema.specs.declared.rows.PoolRow.{PoolRow}
 use Rattle.tenant_tables.specs.Rows.{row_of_pool, row_of_pair, row_with_count, rows_of_pairs, rows_of_exceptions}
@@ -67,7 +67,7 @@ same_pairs pool place (p ∷ ps) (q ∷ qs) same =
     (same_pairs pool (place + 1) ps qs (tails (row_of_pair pool place p) (row_of_pair pool place q) (rows_of_pairs pool (place + 1) ps) (rows_of_pairs pool (place + 1) qs) same))
 
 -- one row of no pair is enough
-pub no_pairs : (done : List Exception) (row : Exception) (left : List Exception) (pool start place : ℕ) → place ≡ start + length done → ((p : Pair) → is_pair GROUP_LIMIT p ≡ true → exception_row row ≢ row_of_pair pool place p)
+pub no_pairs : (done : List ExceptionRow) (row : ExceptionRow) (left : List ExceptionRow) (pool start place : ℕ) → place ≡ start + length done → ((p : Pair) → is_pair GROUP_LIMIT p ≡ true → exception_row row ≢ row_of_pair pool place p)
     → (pairs : List Pair) → list_all (is_pair GROUP_LIMIT) pairs ≡ true → map exception_row (done ++ row ∷ left) ≢ rows_of_pairs pool start pairs
 no_pairs [] row left pool start place at none [] all same = absurd (omega (arith, ap length same))
 no_pairs [] row left pool start place at none (p ∷ pairs) all same =
@@ -143,7 +143,7 @@ next_pool (q ∷ qs) (p ∷ ps) row more left all same rows =
 -- ---- rows that were read
 
 -- the row that follows those that were read
-pub next_read : (done left all : List PoolRow) (row : PoolRow) (qs ps : List TenantPool) (every rest : List Exception) → done ++ row ∷ left ≡ all → map pool_values done ≡ map row_of_pool qs
+pub next_read : (done left all : List PoolRow) (row : PoolRow) (qs ps : List TenantPool) (every rest : List ExceptionRow) → done ++ row ∷ left ≡ all → map pool_values done ≡ map row_of_pool qs
     → map exception_row every ≡ rows_of_exceptions qs ++ map exception_row rest → list_all is_tenant_pool ps ≡ true → map pool_values all ≡ map row_of_pool ps → map exception_row every ≡ rows_of_exceptions ps
     → IsNext (pool_values row) (map exception_row rest)
 next_read done left all row qs ps every rest parts read pairs valid same rows =
@@ -155,7 +155,7 @@ next_read done left all row qs ps every rest parts read pairs valid same rows =
 pub count_of : (row : PoolRow) (p : TenantPool) → pool_values row ≡ row_of_pool p → row.pairs ≡ pos (length p.pairs)
 count_of row p is = cc
 
-module _ (row : PoolRow) (rest : List Exception) (next : IsNext (pool_values row) (map exception_row rest)) where
+module _ (row : PoolRow) (rest : List ExceptionRow) (next : IsNext (pool_values row) (map exception_row rest)) where
   -- there are as many exceptions
   pub there_are : (n : ℕ) → row.pairs ≡ pos n → n < length rest + 1
   there_are n is =
@@ -167,7 +167,7 @@ module _ (row : PoolRow) (rest : List Exception) (next : IsNext (pool_values row
       omega (arith, same, long, both, all, mapped)
 
   -- the first of which are its own
-  pub its_own : (own behind : List Exception) → rest ≡ own ++ behind → row.pairs ≡ pos (length own) → map exception_row own ≡ rows_of_pairs next.p.parts.id 0 next.p.pairs
+  pub its_own : (own behind : List ExceptionRow) → rest ≡ own ++ behind → row.pairs ≡ pos (length own) → map exception_row own ≡ rows_of_pairs next.p.parts.id 0 next.p.pairs
   its_own own behind parts is =
       let same = same_number (length own) (length next.p.pairs) (sym is ∙ count_of row next.p next.row_is) in
       let long : length (map exception_row own) ≡ length (rows_of_pairs next.p.parts.id 0 next.p.pairs) =
@@ -181,7 +181,7 @@ more_pools [] p = append-nil (rows_of_pairs p.parts.id 0 p.pairs)
 more_pools (q ∷ qs) p = ap (λ l. rows_of_pairs q.parts.id 0 q.pairs ++ l) (more_pools qs p) ∙ sym (append_assoc (rows_of_pairs q.parts.id 0 q.pairs) (rows_of_exceptions qs) (rows_of_pairs p.parts.id 0 p.pairs))
 
 -- the pairs of one more pool are read
-pub pairs_read : (qs new : List TenantPool) (p : TenantPool) (every rest own behind : List Exception) → map exception_row every ≡ rows_of_exceptions qs ++ map exception_row rest → rest ≡ own ++ behind
+pub pairs_read : (qs new : List TenantPool) (p : TenantPool) (every rest own behind : List ExceptionRow) → map exception_row every ≡ rows_of_exceptions qs ++ map exception_row rest → rest ≡ own ++ behind
     → map exception_row own ≡ rows_of_pairs p.parts.id 0 p.pairs → new ≡ qs ++ p ∷ [] → map exception_row every ≡ rows_of_exceptions new ++ map exception_row behind
 pairs_read qs new p every rest own behind pairs parts read grown =
     let split : map exception_row rest ≡ rows_of_pairs p.parts.id 0 p.pairs ++ map exception_row behind =
@@ -234,7 +234,7 @@ pairs_in p h =
     let pairs = second (is_pool p.parts) (are_pairs p.parts.pg_num p.pairs) h in
     wider_pairs p.parts.pg_num p.pairs (pool_groups p.parts pool) (second (nat_le (length p.pairs) PAIR_LIMIT) (list_all (is_pair p.parts.pg_num) p.pairs) pairs)
 
-module _ (row : PoolRow) (q : PoolParts) (settings : pool_values row ≡ row_with_count q row.pairs) (exceptions : List Exception) where
+module _ (row : PoolRow) (q : PoolParts) (settings : pool_values row ≡ row_with_count q row.pairs) (exceptions : List ExceptionRow) where
   -- what was made of the rows
   pub is_made : (pairs : List Pair) (t : TenantPool) → row.pairs ≡ pos (length exceptions) → is_pool q ≡ true → are_pairs q.pg_num pairs ≡ true → map exception_row exceptions ≡ rows_of_pairs q.id 0 pairs → t ≡ record { parts = q; pairs = pairs }
       → (is_tenant_pool t ≡ true) × (pool_values row ≡ row_of_pool t) × (map exception_row exceptions ≡ rows_of_pairs t.parts.id 0 t.pairs)

@@ -15,7 +15,7 @@ use Rattle.tenant_state.specs.State.{TenantPool, can_have, is_lower_pool, with_p
 use Rattle.tenant_tables.proofs.RowFacts.{equal_itself}
 use Rattle.tenant_tables.specs.Change.{without_key}
 use Rattle.table_schema.specs.Values.{exception_row}
-use Rattle.table_schema.specs.declared.values.Exception.{Exception}
+use Rattle.table_schema.specs.declared.values.ExceptionRow.{ExceptionRow}
 use Rattle.tenant_tables.proofs.Keyed.{all_above, below, differs, equals, goes, is_own, other_number, stays, swap}
 use Rattle.tenant_tables.proofs.Orders.{tail_up}
 use Rattle.tenant_tables.proofs.Reading.{first}
@@ -209,7 +209,7 @@ row_there n pairs (p ∷ ps) can = here (p.parts.id == n) refl (λ later. row_th
     here false apart later = let it = later (rw apart at can) in (it.0, inr it.1, it.2)
 
 -- rows that are added one after the other
-pub rows_added : (es : List Exception) (rows : List Row) → IsPermutation (fold (λ earlier e. exception_row e ∷ earlier) rows es) (map exception_row es ++ rows)
+pub rows_added : (es : List ExceptionRow) (rows : List Row) → IsPermutation (fold (λ earlier e. exception_row e ∷ earlier) rows es) (map exception_row es ++ rows)
 rows_added [] rows = IsPermutation-refl _
 rows_added (e ∷ es) rows =
     IsPermutation-trans _ _ _ (rows_added es (exception_row e ∷ rows)) (IsPermutation-middle (map exception_row es) (exception_row e) rows)

@@ -4,12 +4,12 @@ use Rattle.std.proofs.Math.Seq.{take-suc}
 use Rattle.sqlite.specs.Store.{Ghosts}
 use Rattle.sqlite.specs.Held.{Held, state}
 use Rattle.sqlite.specs.State.{Executes, ExecutesInside}
-use Rattle.tenant_tables.specs.declared.commit.Accepted.{Accepted}
+use Rattle.tenant_tables.specs.declared.commit.CommitHead.{CommitHead}
 use Rattle.tenant_tables.specs.declared.write.Write.{Write}
 use Rattle.std.specs.List.{AllByRecursion}
-use Rattle.table_schema.specs.declared.values.Exception.{Exception}
-use Rattle.table_schema.specs.declared.values.Pool.{Pool}
-use Rattle.table_schema.specs.declared.values.State.{State}
+use Rattle.table_schema.specs.declared.values.ExceptionRow.{ExceptionRow}
+use Rattle.table_schema.specs.declared.values.PoolValues.{PoolValues}
+use Rattle.table_schema.specs.declared.values.StateRow.{StateRow}
 use Rattle.table_schema.specs.Values.{pool_row, exception_row}
 use Rattle.tenant_tables.specs.declared.write.Write.TheVariants.{Raise, ClearState, AddState, AddException, AddReceipt}
 use Rattle.sqlite.specs.Effect.{Database}
@@ -37,26 +37,26 @@ module _ {S : Type 0} (g : Ghosts S) where
 
 -- ---- the writes for states
 
-pub written_more : (id e : ℤ) (states : List State) (i : ℕ) (d : State) (before mid after : List Write) → i < length states → before ≡ Raise id e ∷ state_writes id (take i states)
+pub written_more : (id e : ℤ) (states : List StateRow) (i : ℕ) (d : StateRow) (before mid after : List Write) → i < length states → before ≡ Raise id e ∷ state_writes id (take i states)
     → mid ≡ before ++ ClearState id (get_or states i d).device ∷ [] → after ≡ mid ++ AddState id (get_or states i d) ∷ [] → after ≡ Raise id e ∷ state_writes id (take (i + 1) states)
 written_more id e states i d before mid after low first second third =
     third ∙ ap (λ l. l ++ AddState id (get_or states i d) ∷ []) (second ∙ ap (λ l. l ++ ClearState id (get_or states i d).device ∷ []) first)
     ∙ ap (λ l. Raise id e ∷ l) (append_assoc (state_writes id (take i states)) (ClearState id (get_or states i d).device ∷ []) (AddState id (get_or states i d) ∷ []) ∙ sym (one_more (take i states) (get_or states i d)))
     ∙ ap (λ l. Raise id e ∷ state_writes id l) (sym (ap (λ n. take n states) (add-one i) ∙ take-suc states i d low))
   where
-    one_more : (front : List State) (s : State) → state_writes id (front ++ s ∷ []) ≡ state_writes id front ++ ClearState id s.device ∷ AddState id s ∷ []
+    one_more : (front : List StateRow) (s : StateRow) → state_writes id (front ++ s ∷ []) ≡ state_writes id front ++ ClearState id s.device ∷ AddState id s ∷ []
     one_more [] s = refl
     one_more (x ∷ front) s = ap (λ l. ClearState id x.device ∷ AddState id x ∷ l) (one_more front s)
 
-pub does_states : (states : List State) (id : ℤ) (w : Write) (rows : TenantRows) → does_all rows (state_writes id states ++ w ∷ []) ≡ does (with_states states rows) w
+pub does_states : (states : List StateRow) (id : ℤ) (w : Write) (rows : TenantRows) → does_all rows (state_writes id states ++ w ∷ []) ≡ does (with_states states rows) w
 does_states [] id w rows = refl
 does_states (s ∷ states) id w rows = does_states states id w (record rows { devices = with_state rows.devices s })
 
-pub about_states : (states : List State) (id : ℤ) (w : Write) → IsAbout id w → AllByRecursion (IsAbout id) (state_writes id states ++ w ∷ [])
+pub about_states : (states : List StateRow) (id : ℤ) (w : Write) → IsAbout id w → AllByRecursion (IsAbout id) (state_writes id states ++ w ∷ [])
 about_states [] id w about = (about, tt)
 about_states (s ∷ states) id w about = (refl, (refl, about_states states id w about))
 
-pub accepts_states : {S : Type 0} (g : Ghosts S) (old : Held S) → IsReady (state g old) → (a : Accepted) (states : List State) (db : Database) → Makes g (writes_with a (state_writes a.id states)) old db
+pub accepts_states : {S : Type 0} (g : Ghosts S) (old : Held S) → IsReady (state g old) → (a : CommitHead) (states : List StateRow) (db : Database) → Makes g (writes_with a (state_writes a.id states)) old db
     → Accepts a (with_states states) (state g old).now.trees db.trees × (IsNumber (state g old).now.trees a.id → AreSound db)
 accepts_states g old ready a states db made =
     let last = AddReceipt a.id a.receipt in
@@ -69,27 +69,27 @@ accepts_states g old ready a states db made =
 
 -- ---- the writes for exceptions
 
-pub exceptions_more : (id epoch : ℤ) (pool : Pool) (exceptions : List Exception) (i : ℕ) (d : Exception) (before after : List Write) → i < length exceptions → before ≡ (Raise id epoch ∷ pool_writes id pool) ++ exception_writes id (take i exceptions)
+pub exceptions_more : (id epoch : ℤ) (pool : PoolValues) (exceptions : List ExceptionRow) (i : ℕ) (d : ExceptionRow) (before after : List Write) → i < length exceptions → before ≡ (Raise id epoch ∷ pool_writes id pool) ++ exception_writes id (take i exceptions)
     → after ≡ before ++ AddException id (get_or exceptions i d) ∷ [] → after ≡ (Raise id epoch ∷ pool_writes id pool) ++ exception_writes id (take (i + 1) exceptions)
 exceptions_more id epoch pool exceptions i d before after low first second =
     let front : List Write = Raise id epoch ∷ pool_writes id pool in
     second ∙ ap (λ l. l ++ AddException id (get_or exceptions i d) ∷ []) first ∙ append_assoc front (exception_writes id (take i exceptions)) (AddException id (get_or exceptions i d) ∷ [])
     ∙ ap (λ l. front ++ l) (sym (one_more (take i exceptions) (get_or exceptions i d)) ∙ ap (exception_writes id) (sym (ap (λ n. take n exceptions) (add-one i) ∙ take-suc exceptions i d low)))
   where
-    one_more : (before : List Exception) (e : Exception) → exception_writes id (before ++ e ∷ []) ≡ exception_writes id before ++ AddException id e ∷ []
+    one_more : (before : List ExceptionRow) (e : ExceptionRow) → exception_writes id (before ++ e ∷ []) ≡ exception_writes id before ++ AddException id e ∷ []
     one_more [] e = refl
     one_more (x ∷ before) e = ap (λ l. AddException id x ∷ l) (one_more before e)
 
-does_exceptions : (exceptions : List Exception) (id : ℤ) (w : Write) (rows : TenantRows)
+does_exceptions : (exceptions : List ExceptionRow) (id : ℤ) (w : Write) (rows : TenantRows)
     → does_all rows (exception_writes id exceptions ++ w ∷ []) ≡ does (record rows { exceptions = fold (λ earlier e. exception_row e ∷ earlier) rows.exceptions exceptions }) w
 does_exceptions [] id w rows = refl
 does_exceptions (e ∷ exceptions) id w rows = does_exceptions exceptions id w (record rows { exceptions = exception_row e ∷ rows.exceptions })
 
-about_exceptions : (exceptions : List Exception) (id : ℤ) (w : Write) → IsAbout id w → AllByRecursion (IsAbout id) (exception_writes id exceptions ++ w ∷ [])
+about_exceptions : (exceptions : List ExceptionRow) (id : ℤ) (w : Write) → IsAbout id w → AllByRecursion (IsAbout id) (exception_writes id exceptions ++ w ∷ [])
 about_exceptions [] id w about = (about, tt)
 about_exceptions (e ∷ exceptions) id w about = (refl, about_exceptions exceptions id w about)
 
-pub accepts_exceptions : {S : Type 0} (g : Ghosts S) (old : Held S) → IsReady (state g old) → (a : Accepted) (pool : Pool) (exceptions : List Exception) (db : Database)
+pub accepts_exceptions : {S : Type 0} (g : Ghosts S) (old : Held S) → IsReady (state g old) → (a : CommitHead) (pool : PoolValues) (exceptions : List ExceptionRow) (db : Database)
     → Makes g (writes_with a (pool_writes a.id pool ++ exception_writes a.id exceptions)) old db
     → Accepts a (with_exceptions pool exceptions) (state g old).now.trees db.trees × (IsNumber (state g old).now.trees a.id → AreSound db)
 accepts_exceptions g old ready a pool exceptions db made =

@@ -17,8 +17,8 @@ use Rattle.table_schema.specs.declared.find.Tenant.{Tenant}
 use Rattle.table_schema.specs.declared.rows.PoolRow.{PoolRow}
 use Rattle.table_schema.specs.declared.rows.ReceiptRow.{ReceiptRow}
 use Rattle.table_schema.specs.declared.rows.VersionRow.{VersionRow}
-use Rattle.table_schema.specs.declared.values.Exception.{Exception}
-use Rattle.table_schema.specs.declared.values.State.{State}
+use Rattle.table_schema.specs.declared.values.ExceptionRow.{ExceptionRow}
+use Rattle.table_schema.specs.declared.values.StateRow.{StateRow}
 use Rattle.tenant_tables.specs.Changes.{HasRows, HasReceipts}
 use Rattle.tenant_tables.specs.Lists.{IsOfState, AreRowsOf, AreRowsOfState}
 use Rattle.tenant_tables.specs.Rows.{rows_of_versions, row_of_state, row_of_pool, rows_of_exceptions, row_of_receipt, StandsFor}
@@ -58,7 +58,7 @@ is_state_of i receipts is count ranges order = record {
 }
 
 -- the lists of rows of the whole state
-pub are_rows_of_state : (i : Inventory) (receipts : Receipts) (epoch : ℤ) (versions : List VersionRow) (states : List State) (pools : List PoolRow) (exceptions : List Exception) (rows : List ReceiptRow) → i.epoch ≡ length receipts
+pub are_rows_of_state : (i : Inventory) (receipts : Receipts) (epoch : ℤ) (versions : List VersionRow) (states : List StateRow) (pools : List PoolRow) (exceptions : List ExceptionRow) (rows : List ReceiptRow) → i.epoch ≡ length receipts
     → AreRowsOf i epoch versions states pools exceptions → map receipt_values rows ≡ map row_of_receipt receipts → AreRowsOfState (with_receipts i receipts) epoch versions states pools exceptions rows
 are_rows_of_state i receipts epoch versions states pools exceptions rows count are read = record {
   has = record {

@@ -20,17 +20,17 @@ use Rattle.tenant_state.proofs.Leaving.{state_stays, taken_suits}
 use Rattle.tenant_state.proofs.Staying.{ascending_with}
 use Rattle.tenant_state.specs.Ordered.{is_ascending, with_element}
 use Rattle.tenant_state.specs.Receipts.{Receipts, receipt_of, with_receipt}
-use Rattle.tenant_state.specs.State.{CanTake, Change, Inventory, Made, NewExceptions, NewPool, NewStates, NewVersion, RemovedPool, TenantPool, TenantState, after, epoch, inventory_of, is_like, is_lower_device, is_lower_pool, with_made, with_state, with_states}
+use Rattle.tenant_state.specs.State.{CanTake, Change, Inventory, Product, NewExceptions, NewPool, NewStates, NewVersion, RemovedPool, TenantPool, TenantState, after, epoch, inventory_of, is_like, is_lower_device, is_lower_pool, with_made, with_state, with_states}
 use Rattle.tenant_state.specs.Valid.{IsChange, IsInventory}
 use Rattle.tenant_state.specs.declared.receipts.Receipt.{Receipt}
 use Rattle.tenant_tables.specs.Change as write
 use Rattle.tenant_tables.specs.Change.{Accepts, IsNumber, without_key}
-use Rattle.tenant_tables.specs.declared.commit.Accepted.{Accepted}
+use Rattle.tenant_tables.specs.declared.commit.CommitHead.{CommitHead}
 use Rattle.table_schema.specs.Values.{receipt_row}
 use Rattle.table_schema.specs.Holds.{Holds, IsTenant, TenantRows, of_tenant}
 use Rattle.table_schema.specs.Layout.{pools_table}
 use Rattle.table_schema.specs.declared.find.Tenant.{Tenant}
-use Rattle.table_schema.specs.declared.values.Receipt as tables
+use Rattle.table_schema.specs.declared.values.ReceiptValues as tables
 use Rattle.tenant_tables.proofs.Keyed.{differs, none_taken, put, swap, taken}
 use Rattle.tenant_tables.proofs.PairWrites.{exceptions_new, exceptions_put, exceptions_taken, pools_put}
 use Rattle.tenant_tables.proofs.Reading.{more_versions}
@@ -96,7 +96,7 @@ record AreRows (rows : TenantRows) (i : Inventory) (receipts : List Row) : Type 
   receipts_are : rows.receipts ≡ receipts
   exceptions : IsPermutation rows.exceptions (rows_of_exceptions i.pools)
 
-made_rows : (m : Made) (s : TenantState) → IsInventory (inventory_of s) → CanTake m (inventory_of s)
+made_rows : (m : Product) (s : TenantState) → IsInventory (inventory_of s) → CanTake m (inventory_of s)
     → AreRows (rows_with_made (pos (length s.versions + 1)) m (rows_of s)) (with_made m (inventory_of s)) (map row_of_receipt s.receipts)
 made_rows (NewVersion m) s is can =
     record { maps = new_version s.versions m; devices = IsPermutation-refl _; pools = IsPermutation-refl _; receipts_are = refl; exceptions = IsPermutation-refl _ }
@@ -129,7 +129,7 @@ made_rows (RemovedPool id) s is can =
     }
 
 -- the rows that a change leaves are those of the state after it
-after_rows : (c : Change) (s : TenantState) (r : tables.Receipt) (e : ℕ) (db : Trees) (name : List ℕ) → IsInventory (inventory_of s) → CanTake c.made (inventory_of s)
+after_rows : (c : Change) (s : TenantState) (r : tables.ReceiptValues) (e : ℕ) (db : Trees) (name : List ℕ) → IsInventory (inventory_of s) → CanTake c.made (inventory_of s)
     → receipt_of c.number s.receipts ≡ None → receipt_row r ≡ row_of_receipt (c.number, c.receipt) → e ≡ epoch s + 1
     → Holds db name (record (write.with_receipt r (rows_with_made (pos (length s.versions + 1)) c.made (rows_of s))) { epoch = e }) → Holds db name (rows_of (after c s))
 after_rows c s r e db name is can new row raised held =
@@ -180,7 +180,7 @@ module _ (db : Trees) (name : List ℕ) (s : TenantState) (tenant : Tenant) (ver
   is_number = (name, epoch s, subst (λ id. IsTenant db name id (epoch s)) id_is may.state.1.tenant)
 
   -- what a commit makes of the rows stands for the state after the change
-  pub turned : (new : Trees) (a : Accepted) (number : ℤ) → IsChange c → a.id ≡ tenant.id → a.epoch ≡ pos (epoch s + 1) → receipt_row a.receipt ≡ row_of_receipt (c.number, c.receipt) → number ≡ pos (versions + 1)
+  pub turned : (new : Trees) (a : CommitHead) (number : ℤ) → IsChange c → a.id ≡ tenant.id → a.epoch ≡ pos (epoch s + 1) → receipt_row a.receipt ≡ row_of_receipt (c.number, c.receipt) → number ≡ pos (versions + 1)
       → Accepts a (rows_with_made number c.made) db new → Turns name (Some (after c s)) db new
   turned new a number change own raised row numbered accepts =
       let turn = accepts name (rows_of s) (epoch s + 1) may.state.1 (id_is ∙ sym own) raised in

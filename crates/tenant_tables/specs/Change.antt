@@ -9,11 +9,11 @@ use Rattle.table_schema.specs.sqlite_schema.specs.Rules.{equal}
 use Rattle.table_schema.specs.Layout.{tables_of_tenants}
 use Rattle.table_schema.specs.Holds.{rows_in, rows_with, IsTenant, IsAbsent, TenantRows, Holds, Turns}
 use Rattle.table_schema.specs.Values.{version_row, state_row, pool_row, exception_row, receipt_row}
-use Rattle.table_schema.specs.declared.values.Exception.{Exception}
-use Rattle.table_schema.specs.declared.values.Pool.{Pool}
-use Rattle.table_schema.specs.declared.values.Receipt.{Receipt}
-use Rattle.table_schema.specs.declared.values.State.{State}
-use Rattle.tenant_tables.specs.declared.commit.Accepted.{Accepted}
+use Rattle.table_schema.specs.declared.values.ExceptionRow.{ExceptionRow}
+use Rattle.table_schema.specs.declared.values.PoolValues.{PoolValues}
+use Rattle.table_schema.specs.declared.values.ReceiptValues.{ReceiptValues}
+use Rattle.table_schema.specs.declared.values.StateRow.{StateRow}
+use Rattle.tenant_tables.specs.declared.commit.CommitHead.{CommitHead}
 
 -- the rows of a new tenant
 abbrev pub fresh_rows : TenantRows
@@ -24,17 +24,17 @@ abbrev pub without_key : ℤ → List Row → List Row
 without_key key rows = filter (λ row. not (equal Binary (column row 0) (Int key))) rows
 
 -- the state takes the place of an earlier one of its device
-abbrev pub with_state : List Row → State → List Row
+abbrev pub with_state : List Row → StateRow → List Row
 with_state rows state = state_row state ∷ without_key state.device rows
 
 -- what each commit does to the rows
 abbrev pub with_version : ℤ → List ℕ → TenantRows → TenantRows
 with_version version text rows = record rows { maps = version_row version text ∷ rows.maps }
 
-abbrev pub with_states : List State → TenantRows → TenantRows
+abbrev pub with_states : List StateRow → TenantRows → TenantRows
 with_states states rows = record rows { devices = fold with_state rows.devices states }
 
-abbrev pub with_pool : Pool → TenantRows → TenantRows
+abbrev pub with_pool : PoolValues → TenantRows → TenantRows
 with_pool pool rows = record rows { pools = pool_row pool ∷ rows.pools }
 
 -- the pool is removed, and its exceptions with it
@@ -42,13 +42,13 @@ abbrev pub without_pool : ℤ → TenantRows → TenantRows
 without_pool pool rows = record rows { pools = without_key pool rows.pools; exceptions = without_key pool rows.exceptions }
 
 -- the pool's row takes the place of the earlier one, and the exceptions that of its earlier ones
-abbrev pub with_exceptions : Pool → List Exception → TenantRows → TenantRows
+abbrev pub with_exceptions : PoolValues → List ExceptionRow → TenantRows → TenantRows
 with_exceptions pool exceptions rows = record rows {
   pools = pool_row pool ∷ without_key pool.id rows.pools;
   exceptions = fold (λ earlier e. exception_row e ∷ earlier) (without_key pool.id rows.exceptions) exceptions;
 }
 
-abbrev pub with_receipt : Receipt → TenantRows → TenantRows
+abbrev pub with_receipt : ReceiptValues → TenantRows → TenantRows
 with_receipt receipt rows = record rows { receipts = receipt_row receipt ∷ rows.receipts }
 
 -- The number is that of a tenant.
@@ -57,7 +57,7 @@ IsNumber db id = (name : List ℕ) × (epoch : ℕ) × IsTenant db name id epoch
 
 -- The rows of the tenant with the number are changed by `change`, and it has the receipt and the
 -- epoch. The rows of each other name are unchanged.
-abbrev pub Accepts : Accepted → (TenantRows → TenantRows) → Trees → Trees → Type 0
+abbrev pub Accepts : CommitHead → (TenantRows → TenantRows) → Trees → Trees → Type 0
 Accepts a change old new =
     (name : List ℕ) (rows : TenantRows) (e : ℕ) → (held : Holds old name rows) → held.id ≡ a.id → a.epoch ≡ pos e
     → Turns name (λ db. Holds db name (record (with_receipt a.receipt (change rows)) { epoch = e })) old new

@@ -8,16 +8,16 @@ use Rattle.table_schema.specs.sqlite_schema.specs.Rules.{equal}
 use Rattle.crush_pool.specs.declared.exceptions.Pair.{Pair}
 use Rattle.crush_pool.specs.declared.states.DeviceState.{DeviceState}
 use Rattle.crush_text.specs.crush_writing.specs.Canonical.{canonical}
-use Rattle.tenant_state.specs.State.{Inventory, Made, NewExceptions, NewPool, NewStates, NewVersion, RemovedPool, suits}
+use Rattle.tenant_state.specs.State.{Inventory, Product, NewExceptions, NewPool, NewStates, NewVersion, RemovedPool, suits}
 use Rattle.tenant_state.specs.Valid.{IsInventory}
 use Rattle.table_schema.specs.Holds.{TenantRows, of_tenant}
 use Rattle.table_schema.specs.Layout.{pools_table}
 use Rattle.tenant_tables.specs.Change.{with_states, with_version, without_key, without_pool}
-use Rattle.table_schema.specs.declared.values.State.{State}
+use Rattle.table_schema.specs.declared.values.StateRow.{StateRow}
 use Rattle.tenant_tables.specs.Rows.{flag, row_of_pool, rows_of_pairs}
 
 -- the numbers of a device's state
-abbrev pub numbers_of : DeviceState → State
+abbrev pub numbers_of : DeviceState → StateRow
 numbers_of s = record { device = pos s.device; reweight = pos s.reweight; up = flag s.up }
 
 -- the row of a pool; with `count` as the number of its pairs if the pool has the id
@@ -32,7 +32,7 @@ with_new_pairs id pairs rows = record rows {
 }
 
 -- the rows with what is made; a version gets the number
-abbrev pub rows_with_made : ℤ → Made → TenantRows → TenantRows
+abbrev pub rows_with_made : ℤ → Product → TenantRows → TenantRows
 rows_with_made number (NewVersion m) rows = with_version number (canonical m) rows
 rows_with_made number (NewStates changed) rows = with_states (map numbers_of changed) rows
 rows_with_made number (NewPool p) rows = record rows { pools = row_of_pool (record { parts = p; pairs = [] }) ∷ rows.pools }
@@ -40,7 +40,7 @@ rows_with_made number (NewExceptions id pairs) rows = with_new_pairs id pairs ro
 rows_with_made number (RemovedPool id) rows = without_pool (pos id) rows
 
 -- what is made suits the pools of the tenant with the number
-pub record HasPoolsFor (db : Trees) (id : ℤ) (made : Made) : Type 0 where
+pub record HasPoolsFor (db : Trees) (id : ℤ) (made : Product) : Type 0 where
   pub i : Inventory
   pub has : IsInventory i
   pub rows : IsPermutation (of_tenant pools_table id db) (map row_of_pool i.pools)

@@ -8,8 +8,8 @@ use Rattle.table_schema.specs.Found.{version_values, pool_values, receipt_values
 use Rattle.table_schema.specs.declared.rows.VersionRow.{VersionRow}
 use Rattle.table_schema.specs.declared.rows.PoolRow.{PoolRow}
 use Rattle.table_schema.specs.declared.rows.ReceiptRow.{ReceiptRow}
-use Rattle.table_schema.specs.declared.values.Exception.{Exception}
-use Rattle.table_schema.specs.declared.values.State.{State}
+use Rattle.table_schema.specs.declared.values.ExceptionRow.{ExceptionRow}
+use Rattle.table_schema.specs.declared.values.StateRow.{StateRow}
 use Rattle.tenant_tables.specs.Rows.{rows_of_versions, row_of_state, row_of_pool, rows_of_exceptions, row_of_receipt}
 
 -- some state has the inventory: it is in its ranges and orders and within the limits, no two pools
@@ -23,7 +23,7 @@ pub record IsOfState (i : Inventory) : Type 0 where
   pub rules : have_rules i ≡ true
 
 -- the epoch and the rows are those of the inventory, in its order
-pub record AreRowsOf (i : Inventory) (epoch : ℤ) (versions : List VersionRow) (states : List State) (pools : List PoolRow) (exceptions : List Exception) : Type 0 where
+pub record AreRowsOf (i : Inventory) (epoch : ℤ) (versions : List VersionRow) (states : List StateRow) (pools : List PoolRow) (exceptions : List ExceptionRow) : Type 0 where
   pub epoch_is : epoch ≡ pos i.epoch
   pub versions_are : map version_values versions ≡ rows_of_versions 1 i.versions
   pub states_are : map state_row states ≡ map row_of_state i.devices
@@ -31,6 +31,6 @@ pub record AreRowsOf (i : Inventory) (epoch : ℤ) (versions : List VersionRow) 
   pub exceptions_are : map exception_row exceptions ≡ rows_of_exceptions i.pools
 
 -- the epoch and the rows are those of the state, in its order
-pub record AreRowsOfState (s : TenantState) (epoch : ℤ) (versions : List VersionRow) (states : List State) (pools : List PoolRow) (exceptions : List Exception) (receipts : List ReceiptRow) : Type 0 where
+pub record AreRowsOfState (s : TenantState) (epoch : ℤ) (versions : List VersionRow) (states : List StateRow) (pools : List PoolRow) (exceptions : List ExceptionRow) (receipts : List ReceiptRow) : Type 0 where
   pub has : AreRowsOf (inventory_of s) epoch versions states pools exceptions
   pub receipts_are : map receipt_values receipts ≡ map row_of_receipt s.receipts

@@ -8,10 +8,10 @@ use Rattle.sqlite.specs.State.{Executes}
 use Rattle.sqlite.specs.Held.{Held, state}
 use Rattle.table_schema.specs.Layout.{IsStoreSchema}
 use Rattle.table_schema.specs.Holds.{AreTables}
-use Rattle.table_schema.specs.declared.values.Exception.{Exception}
-use Rattle.table_schema.specs.declared.values.Pool.{Pool}
-use Rattle.table_schema.specs.declared.values.State.{State}
-use Rattle.tenant_tables.specs.declared.commit.Accepted.{Accepted}
+use Rattle.table_schema.specs.declared.values.ExceptionRow.{ExceptionRow}
+use Rattle.table_schema.specs.declared.values.PoolValues.{PoolValues}
+use Rattle.table_schema.specs.declared.values.StateRow.{StateRow}
+use Rattle.tenant_tables.specs.declared.commit.CommitHead.{CommitHead}
 use Rattle.tenant_tables.specs.declared.write.Write.{Write}
 use Rattle.tenant_tables.specs.declared.write.Write.TheVariants.{Plain, Create, Remove, Raise, AddVersion, ClearState, AddState, AddPool, RemovePool, AddException, ClearExceptions, AddReceipt}
 
@@ -58,21 +58,21 @@ params_of (AddReceipt id receipt) =
     Int id ∷ Words receipt.request.now ∷ Words receipt.path.now ∷ Words receipt.body.now ∷ Int receipt.status ∷ Words receipt.reply.now ∷ []
 
 -- the writes that set the states of devices
-abbrev pub state_writes : ℤ → List State → List Write
+abbrev pub state_writes : ℤ → List StateRow → List Write
 state_writes id [] = []
 state_writes id (state ∷ states) = ClearState id state.device ∷ AddState id state ∷ state_writes id states
 
 -- the writes that set a pool's row, and remove its exceptions
-abbrev pub pool_writes : ℤ → Pool → List Write
+abbrev pub pool_writes : ℤ → PoolValues → List Write
 pool_writes id pool = ClearExceptions id pool.id ∷ RemovePool id pool.id ∷ AddPool id pool ∷ []
 
 -- the writes that add exceptions
-abbrev pub exception_writes : ℤ → List Exception → List Write
+abbrev pub exception_writes : ℤ → List ExceptionRow → List Write
 exception_writes id [] = []
 exception_writes id (exception ∷ exceptions) = AddException id exception ∷ exception_writes id exceptions
 
 -- the writes of an accepted change, between that of the epoch and that of the receipt
-abbrev pub writes_with : Accepted → List Write → List Write
+abbrev pub writes_with : CommitHead → List Write → List Write
 writes_with a writes = Raise a.id a.epoch ∷ writes ++ AddReceipt a.id a.receipt ∷ []
 
 module _ {S : Type 0} (g : Ghosts S) where

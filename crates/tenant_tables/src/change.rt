@@ -18,17 +18,17 @@ ghost use Rattle.tenant_tables.specs.Rows as spec;
 ghost use Rattle.tenant_tables.specs.Changes.{IsChangeable, Turns};
 ghost use Rattle.tenant_tables.specs.Commits.{HasPoolsFor, numbers_of, rows_with_made, with_new_pairs};
 
-use crate::commit::Accepted;
-use crate::tables::Tables;
+use crate::commit::CommitHead;
+use crate::tables::TenantTables;
 use crush_map::Text;
 use crush_pool::{DeviceState, Exceptions, Pair, Pool};
 use sqlite::Alter;
 use std::alloc::{AllocError, Global};
 use table_schema::find::Tenant;
 use table_schema::rows::PoolRow;
-use table_schema::values::{Exception, Pool as PoolValues, Receipt as ReceiptValues, State};
+use table_schema::values::{ExceptionRow, PoolValues, ReceiptValues, StateRow};
 use tenant_messages::{StoreFault, SuccessStatus};
-use tenant_state::{Change, Made, Receipt};
+use tenant_state::{Change, Product, Receipt};
 
 // ---- numbers
 
@@ -69,10 +69,10 @@ fn status(status: SuccessStatus) -> i64
 // ---- values of rows
 
 /// Returns the values of the row of a device's state.
-fn state_values(state: &DeviceState) -> State
+fn state_values(state: &DeviceState) -> StateRow
     ensures { result ≡ numbers_of state.now }
 {
-    State {
+    StateRow {
         device: i64::from(state.device),
         reweight: i64::from(state.reweight),
         up: flag(state.up),
@@ -81,7 +81,7 @@ fn state_values(state: &DeviceState) -> State
 
 /// Returns the values of the rows of states of devices, in their order. `Err(AllocError)`: an
 /// allocation failed.
-fn all_state_values(alloc: Global, states: &[DeviceState]) -> Result<Vec<State>, AllocError>
+fn all_state_values(alloc: Global, states: &[DeviceState]) -> Result<Vec<StateRow>, AllocError>
     ensures { IfOk result (λ values. values.items ≡ map numbers_of states.now) }
 {
     states.iter().map(state_values).collect(alloc)
@@ -136,10 +136,10 @@ fn row_with(rows: Vec<PoolRow>, id: u32) -> Option<PoolRow>
 }
 
 /// Returns the values of the row of `pair`, at `place` of the pool with the id `pool`.
-fn pair_values(pool: u32, place: u32, pair: &Pair) -> Exception
+fn pair_values(pool: u32, place: u32, pair: &Pair) -> ExceptionRow
     ensures { rows.exception_row result ≡ spec.row_of_pair pool place pair.now }
 {
-    Exception {
+    ExceptionRow {
         pool: i64::from(pool),
         place: i64::from(place),
         group: i64::from(pair.group),
@@ -150,7 +150,11 @@ fn pair_values(pool: u32, place: u32, pair: &Pair) -> Exception
 
 /// Returns the values of the rows of `pairs`, at the places 0, 1, .. of the pool with the id
 /// `pool`. `Err(AllocError)`: an allocation failed.
-fn all_pair_values(alloc: Global, pool: u32, pairs: &[Pair]) -> Result<Vec<Exception>, AllocError>
+fn all_pair_values(
+    alloc: Global,
+    pool: u32,
+    pairs: &[Pair],
+) -> Result<Vec<ExceptionRow>, AllocError>
     requires { length pairs.now ≤ PAIR_LIMIT }
     ensures { IfOk result (λ values. map rows.exception_row values.items ≡ spec.rows_of_pairs pool 0 pairs.now) }
 {
@@ -179,8 +183,8 @@ fn receipt_values<'a>(number: &'a Text, receipt: &'a Receipt) -> ReceiptValues<'
 /// Writes `states`, each in place of an earlier one of its device, with what each change writes.
 fn write_states<'a, S: Alter>(
     alloc: Global,
-    tables: &mut Tables<S>,
-    accepted: &Accepted<'a>,
+    tables: &mut TenantTables<S>,
+    accepted: &CommitHead<'a>,
     states: &[DeviceState],
 ) -> Result<(), StoreFault>
     requires live { tables.old.1 ≡ false }
@@ -199,8 +203,8 @@ fn write_states<'a, S: Alter>(
 /// change writes. The tenant has to have the pool.
 fn write_exceptions<S: Alter>(
     alloc: Global,
-    tables: &mut Tables<S>,
-    accepted: Accepted<'_>,
+    tables: &mut TenantTables<S>,
+    accepted: CommitHead<'_>,
     pool: u32,
     exceptions: &Exceptions,
 ) -> Result<(), StoreFault>
@@ -226,10 +230,10 @@ fn write_exceptions<S: Alter>(
 /// Writes `made`, with what each change writes. A version gets the number `number`.
 fn write_made<'a, S: Alter>(
     alloc: Global,
-    tables: &mut Tables<S>,
-    accepted: &Accepted<'a>,
+    tables: &mut TenantTables<S>,
+    accepted: &CommitHead<'a>,
     number: i64,
-    made: &'a Made,
+    made: &'a Product,
 ) -> Result<(), StoreFault>
     requires live { tables.old.1 ≡ false }
     requires there { HasCleanDisk (state S.Store tables.old.0) → IsNumber (state S.Store tables.old.0).now.trees accepted.now.id }
@@ -241,17 +245,17 @@ fn write_made<'a, S: Alter>(
     ensures crash { Survives (state S.Store tables.old.0) (state S.Store tables.new.0) (Accepts accepted.now (rows_with_made number (made_of made.now)) (state S.Store tables.old.0).now.trees) }
 {
     match made {
-        Made::Version(version) => tables.commit_version(accepted, number, version.text()),
-        Made::States(states) => write_states(alloc, tables, accepted, states.as_slice()),
-        Made::Pool(pool) => {
+        Product::Version(version) => tables.commit_version(accepted, number, version.text()),
+        Product::States(states) => write_states(alloc, tables, accepted, states.as_slice()),
+        Product::Pool(pool) => {
             let values = pool_values(pool.as_ref());
             tables.commit_pool(accepted, &values)
         }
-        Made::Exceptions(pool, exceptions) => {
+        Product::Exceptions(pool, exceptions) => {
             let exceptions = exceptions.exceptions();
             write_exceptions(alloc, tables, *accepted, *pool, exceptions)
         }
-        Made::NoPool(pool) => tables.commit_no_pool(accepted, i64::from(*pool)),
+        Product::NoPool(pool) => tables.commit_no_pool(accepted, i64::from(*pool)),
     }
 }
 
@@ -261,7 +265,7 @@ fn write_made<'a, S: Alter>(
 /// `Err(StoreFault::Failed)`: the tables are latched.
 pub fn write_change<S: Alter>(
     alloc: Global,
-    tables: &mut Tables<S>,
+    tables: &mut TenantTables<S>,
     tenant: &Tenant,
     versions: u64,
     change: &Change,
@@ -283,7 +287,7 @@ pub fn write_change<S: Alter>(
         return Err(StoreFault::Damaged);
     };
     let receipt = receipt_values(&change.number, change.receipt.as_ref());
-    let accepted = Accepted {
+    let accepted = CommitHead {
         id: tenant.id,
         epoch,
         receipt,

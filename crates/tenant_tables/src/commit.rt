@@ -8,20 +8,20 @@ ghost use Rattle.table_schema.specs.Ready.{IsReady};
 ghost use Rattle.tenant_tables.specs.Run.{state_writes, pool_writes, exception_writes, writes_with};
 ghost use Rattle.tenant_tables.specs.Change.{Accepts, Creates, Drops, IsNumber, with_version, with_states, with_pool, without_pool, with_exceptions};
 
-use crate::tables::Tables;
+use crate::tables::TenantTables;
 use crate::write::Write;
 use sqlite::Alter;
 use std::alloc::{AllocError, Global};
-use table_schema::values::{Exception, Pool, Receipt, State};
+use table_schema::values::{ExceptionRow, PoolValues, ReceiptValues, StateRow};
 use tenant_messages::StoreFault;
 
 /// What each accepted change writes beside what it made: the number of its tenant, the tenant's new
 /// epoch, and the receipt.
 #[derive(Clone, Copy)]
-pub struct Accepted<'a> {
+pub struct CommitHead<'a> {
     pub id: i64,
     pub epoch: i64,
-    pub receipt: Receipt<'a>,
+    pub receipt: ReceiptValues<'a>,
 }
 
 /// Returns the writes that set the states of devices, the epoch and the receipt.
@@ -29,12 +29,12 @@ pub struct Accepted<'a> {
 /// `Err(AllocError)`: an allocation failed; nothing is changed.
 fn writes_for<'a>(
     alloc: Global,
-    accepted: &Accepted<'a>,
-    states: &[State],
+    accepted: &CommitHead<'a>,
+    states: &[StateRow],
 ) -> Result<Vec<Write<'a>>, AllocError>
     ensures { IfOk result (λ writes. writes.items ≡ writes_with accepted.now (state_writes accepted.now.id states.now)) }
 {
-    let Accepted { id, epoch, receipt } = *accepted;
+    let CommitHead { id, epoch, receipt } = *accepted;
     let mut writes = Vec::new(alloc);
     writes.push(Write::Raise { id, epoch })?;
     for state in states {
@@ -53,13 +53,13 @@ fn writes_for<'a>(
 /// `Err(AllocError)`: an allocation failed; nothing is changed.
 fn exception_writes_for<'a>(
     alloc: Global,
-    accepted: &Accepted<'a>,
-    pool: &Pool<'a>,
-    exceptions: &[Exception],
+    accepted: &CommitHead<'a>,
+    pool: &PoolValues<'a>,
+    exceptions: &[ExceptionRow],
 ) -> Result<Vec<Write<'a>>, AllocError>
     ensures { IfOk result (λ writes. writes.items ≡ writes_with accepted.now (pool_writes accepted.now.id pool.now ++ exception_writes accepted.now.id exceptions.now)) }
 {
-    let Accepted { id, epoch, receipt } = *accepted;
+    let CommitHead { id, epoch, receipt } = *accepted;
     let mut writes = Vec::new(alloc);
     writes.push(Write::Raise { id, epoch })?;
     writes.push(Write::ClearExceptions { id, pool: pool.id })?;
@@ -75,7 +75,7 @@ fn exception_writes_for<'a>(
     Ok(writes)
 }
 
-impl<S: Alter> Tables<S> {
+impl<S: Alter> TenantTables<S> {
     /// Makes a tenant with epoch 0 and no other row, under a number that no tenant had before.
     ///
     /// `Err(StoreFault::NoMemory)`, `Err(StoreFault::Full)`: nothing is changed.
@@ -115,7 +115,7 @@ impl<S: Alter> Tables<S> {
     /// `Err(StoreFault::Failed)`: the tables are latched.
     pub fn commit_version<'a>(
         &mut self,
-        accepted: &Accepted<'a>,
+        accepted: &CommitHead<'a>,
         version: i64,
         text: &'a str,
     ) -> Result<(), StoreFault>
@@ -127,7 +127,7 @@ impl<S: Alter> Tables<S> {
         ensures rows { result ≢ Err StoreFault.Damaged }
         ensures crash { Survives (state S.Store self.old.0) (state S.Store self.new.0) (Accepts accepted.now (with_version version text.now) (state S.Store self.old.0).now.trees) }
     {
-        let Accepted { id, epoch, receipt } = *accepted;
+        let CommitHead { id, epoch, receipt } = *accepted;
         self.write(&[
             Write::Raise { id, epoch },
             Write::AddVersion { id, version, text },
@@ -142,8 +142,8 @@ impl<S: Alter> Tables<S> {
     /// `Err(StoreFault::Failed)`: the tables are latched.
     pub fn commit_states<'a>(
         &mut self,
-        accepted: &Accepted<'a>,
-        states: &[State],
+        accepted: &CommitHead<'a>,
+        states: &[StateRow],
     ) -> Result<(), StoreFault>
         requires live { self.old.1 ≡ false }
         requires there { HasCleanDisk (state S.Store self.old.0) → IsNumber (state S.Store self.old.0).now.trees accepted.now.id }
@@ -163,8 +163,8 @@ impl<S: Alter> Tables<S> {
     /// `Err(StoreFault::Failed)`: the tables are latched.
     pub fn commit_pool<'a>(
         &mut self,
-        accepted: &Accepted<'a>,
-        pool: &Pool<'a>,
+        accepted: &CommitHead<'a>,
+        pool: &PoolValues<'a>,
     ) -> Result<(), StoreFault>
         requires live { self.old.1 ≡ false }
         requires there { HasCleanDisk (state S.Store self.old.0) → IsNumber (state S.Store self.old.0).now.trees accepted.now.id }
@@ -174,7 +174,7 @@ impl<S: Alter> Tables<S> {
         ensures rows { result ≢ Err StoreFault.Damaged }
         ensures crash { Survives (state S.Store self.old.0) (state S.Store self.new.0) (Accepts accepted.now (with_pool pool.now) (state S.Store self.old.0).now.trees) }
     {
-        let Accepted { id, epoch, receipt } = *accepted;
+        let CommitHead { id, epoch, receipt } = *accepted;
         self.write(&[
             Write::Raise { id, epoch },
             Write::AddPool { id, pool: *pool },
@@ -190,9 +190,9 @@ impl<S: Alter> Tables<S> {
     /// `Err(StoreFault::Failed)`: the tables are latched.
     pub fn commit_exceptions<'a>(
         &mut self,
-        accepted: &Accepted<'a>,
-        pool: &Pool<'a>,
-        exceptions: &[Exception],
+        accepted: &CommitHead<'a>,
+        pool: &PoolValues<'a>,
+        exceptions: &[ExceptionRow],
     ) -> Result<(), StoreFault>
         requires live { self.old.1 ≡ false }
         requires there { HasCleanDisk (state S.Store self.old.0) → IsNumber (state S.Store self.old.0).now.trees accepted.now.id }
@@ -212,7 +212,7 @@ impl<S: Alter> Tables<S> {
     /// `Err(StoreFault::Failed)`: the tables are latched.
     pub fn commit_no_pool<'a>(
         &mut self,
-        accepted: &Accepted<'a>,
+        accepted: &CommitHead<'a>,
         pool: i64,
     ) -> Result<(), StoreFault>
         requires live { self.old.1 ≡ false }
@@ -223,7 +223,7 @@ impl<S: Alter> Tables<S> {
         ensures rows { result ≢ Err StoreFault.Damaged }
         ensures crash { Survives (state S.Store self.old.0) (state S.Store self.new.0) (Accepts accepted.now (without_pool pool) (state S.Store self.old.0).now.trees) }
     {
-        let Accepted { id, epoch, receipt } = *accepted;
+        let CommitHead { id, epoch, receipt } = *accepted;
         self.write(&[
             Write::Raise { id, epoch },
             Write::ClearExceptions { id, pool },

@@ -13,7 +13,7 @@ use crush_text::written_maps_are_read_back;
 use std::alloc::{AllocError, Global};
 use std::rc::Rc;
 use table_schema::rows::{PoolRow, VersionRow};
-use table_schema::values::{Exception, State};
+use table_schema::values::{ExceptionRow, StateRow};
 use tenant_state::limits::{POOL_LIMIT, RECEIPT_LIMIT, VERSION_LIMIT};
 use tenant_state::{Inventory, TenantPool, Versions};
 
@@ -74,9 +74,9 @@ pub fn inventory_from(
     alloc: Global,
     epoch: i64,
     versions: Vec<VersionRow>,
-    states: Vec<State>,
+    states: Vec<StateRow>,
     pools: Vec<PoolRow>,
-    exceptions: &[Exception],
+    exceptions: &[ExceptionRow],
 ) -> Result<Option<Rc<Inventory>>, AllocError>
     ensures some { IfOk result (λ o. IfSome o (λ i. IsOfState i.value × AreRowsOf i.value epoch versions.items states.items pools.items exceptions.now)) }
     ensures none { IfOk result (λ o. o ≡ None → (i : Has) → IsOfState i → ¬ AreRowsOf i epoch versions.items states.items pools.items exceptions.now) }

@@ -12,7 +12,7 @@ ghost use Rattle.tenant_tables.specs.Pages.{AreReceipts, IsOfReceipt, IsTail, Le
 ghost use Rattle.tenant_tables.specs.Reads.{ChangesNoRow};
 
 use crate::parts::is_receipt_row;
-use crate::tables::Tables;
+use crate::tables::TenantTables;
 use sqlite::Alter;
 use table_schema::find::Tenant;
 use table_schema::pages::PAGE;
@@ -73,7 +73,10 @@ fn rest_behind(page: Vec<ReceiptRow>, left: u64) -> Result<Option<Rest>, StoreFa
 /// `Err(StoreFault::Damaged)`: exactly where they are the receipts of no state.
 /// `Err(StoreFault::NoMemory)`: an allocation failed. `Err(StoreFault::Failed)`: the tables are
 /// latched.
-pub fn judge_receipts<S: Alter>(tables: &mut Tables<S>, tenant: &Tenant) -> Result<(), StoreFault>
+pub fn judge_receipts<S: Alter>(
+    tables: &mut TenantTables<S>,
+    tenant: &Tenant,
+) -> Result<(), StoreFault>
     requires live { tables.old.1 ≡ false }
     ensures found { HasCleanDisk (state S.Store tables.new.0) → OnOk result ((receipts : Receipts) × HasReceipts (state S.Store tables.old.0).now.trees tenant.now receipts) }
     ensures damaged { HasCleanDisk (state S.Store tables.new.0) → result ≡ Err StoreFault.Damaged → (receipts : Receipts) → ¬ HasReceipts (state S.Store tables.old.0).now.trees tenant.now receipts }

@@ -21,7 +21,7 @@ use crush_pool::DeviceState;
 use std::alloc::{AllocError, Global};
 use std::rc::Rc;
 use table_schema::rows::{ReceiptRow, VersionRow};
-use table_schema::values::State;
+use table_schema::values::StateRow;
 use tenant_messages::SuccessStatus;
 use tenant_messages::limits::REQUEST_NUMBER_LIMIT;
 use tenant_state::{Devices, Receipt, Version};
@@ -104,7 +104,7 @@ pub fn versions_from(
 // ---- states of devices
 
 /// Returns the state of a device of `row`. `None`, exactly where `row` is the row of no state.
-fn state_from(row: State) -> Option<DeviceState>
+fn state_from(row: StateRow) -> Option<DeviceState>
     ensures some { IfSome result (λ s. (is_device_state s ≡ true) × (state_row row ≡ spec.row_of_state s)) }
     ensures none { result ≡ None → (s : StateOfDevice) → is_device_state s ≡ true → state_row row ≢ spec.row_of_state s }
 {
@@ -123,7 +123,7 @@ fn state_from(row: State) -> Option<DeviceState>
 
 /// Returns the states of devices of `rows`, in the order of the devices' ids. `None`, exactly where
 /// they are the rows of no states. `Err(AllocError)`: an allocation failed.
-pub fn states_from(alloc: Global, rows: Vec<State>) -> Result<Option<Rc<Devices>>, AllocError>
+pub fn states_from(alloc: Global, rows: Vec<StateRow>) -> Result<Option<Rc<Devices>>, AllocError>
     ensures some { IfOk result (λ o. IfSome o (λ d. (list_all is_device_state d.value ≡ true) × (is_ascending is_lower_device d.value ≡ true) × (map state_row rows.items ≡ map spec.row_of_state d.value))) }
     ensures none { IfOk result (λ o. o ≡ None → (states : List StateOfDevice) → list_all is_device_state states ≡ true → is_ascending is_lower_device states ≡ true → map state_row rows.items ≢ map spec.row_of_state states) }
 {

@@ -20,14 +20,14 @@ use crush_pool::{Exceptions, Pair, Pool, PoolParts, SharedExceptions};
 use std::alloc::{AllocError, Global};
 use std::rc::Rc;
 use table_schema::rows::PoolRow;
-use table_schema::values::Exception;
+use table_schema::values::ExceptionRow;
 use tenant_state::{Pools, TenantPool};
 
 // ---- pairs
 
 /// Returns the pair of `row`, which has to be at `place` of the pool with the id `pool`. `None`,
 /// exactly where `row` is the row of no such pair.
-fn pair_from(row: &Exception, pool: u32, place: u64) -> Option<Pair>
+fn pair_from(row: &ExceptionRow, pool: u32, place: u64) -> Option<Pair>
     ensures some { IfSome result (λ p. exception_row row.now ≡ spec.row_of_pair pool place p) }
     ensures none { result ≡ None → (p : PairOfPool) → is_pair GROUP_LIMIT p ≡ true → exception_row row.now ≢ spec.row_of_pair pool place p }
 {
@@ -43,7 +43,11 @@ fn pair_from(row: &Exception, pool: u32, place: u64) -> Option<Pair>
 /// Returns the pairs of the pool with the id `pool` from the rows of its exceptions, which have the
 /// places 0, 1, .. `None`, exactly where they are the rows of no pairs. `Err(AllocError)`: an
 /// allocation failed.
-fn pairs_from(alloc: Global, rows: &[Exception], pool: u32) -> Result<Option<Vec<Pair>>, AllocError>
+fn pairs_from(
+    alloc: Global,
+    rows: &[ExceptionRow],
+    pool: u32,
+) -> Result<Option<Vec<Pair>>, AllocError>
     ensures some { IfOk result (λ o. IfSome o (λ pairs. map exception_row rows.now ≡ spec.rows_of_pairs pool 0 pairs.items)) }
     ensures none { IfOk result (λ o. o ≡ None → (pairs : List PairOfPool) → list_all (is_pair GROUP_LIMIT) pairs ≡ true → map exception_row rows.now ≢ spec.rows_of_pairs pool 0 pairs) }
 {
@@ -91,7 +95,7 @@ fn settings_from(row: PoolRow) -> Option<Pool>
 fn pool_from(
     alloc: Global,
     row: PoolRow,
-    exceptions: &[Exception],
+    exceptions: &[ExceptionRow],
 ) -> Result<Option<TenantPool>, AllocError>
     requires { row.pairs ≡ pos (length exceptions.now) }
     ensures some { IfOk result (λ o. IfSome o (λ p. (is_tenant_pool p ≡ true) × (pool_values row ≡ spec.row_of_pool p) × (map exception_row exceptions.now ≡ spec.rows_of_pairs p.parts.id 0 p.pairs))) }
@@ -113,7 +117,7 @@ fn pool_from(
 }
 
 /// Returns the first `count` rows and the rows that follow them, or `None` where there are fewer.
-fn split(rows: &[Exception], count: i64) -> Option<(&[Exception], &[Exception])>
+fn split(rows: &[ExceptionRow], count: i64) -> Option<(&[ExceptionRow], &[ExceptionRow])>
     ensures some { IfSome result (λ r. (rows.now ≡ r.0.now ++ r.1.now) × (count ≡ pos (length r.0.now))) }
     ensures none { result ≡ None → (n : ℕ) → count ≡ pos n → length rows.now < n }
 {
@@ -131,7 +135,7 @@ fn split(rows: &[Exception], count: i64) -> Option<(&[Exception], &[Exception])>
 pub fn pools_from(
     alloc: Global,
     rows: Vec<PoolRow>,
-    exceptions: &[Exception],
+    exceptions: &[ExceptionRow],
 ) -> Result<Option<Pools>, AllocError>
     ensures some { IfOk result (λ o. IfSome o (λ pools. (list_all is_tenant_pool pools ≡ true) × (is_ascending is_lower_pool pools ≡ true) × (map pool_values rows.items ≡ map spec.row_of_pool pools) × (map exception_row exceptions.now ≡ spec.rows_of_exceptions pools))) }
     ensures none { IfOk result (λ o. o ≡ None → (pools : List PoolOfTenant) → list_all is_tenant_pool pools ≡ true → is_ascending is_lower_pool pools ≡ true → map pool_values rows.items ≡ map spec.row_of_pool pools → map exception_row exceptions.now ≢ spec.rows_of_exceptions pools) }

@@ -9,14 +9,14 @@ ghost use Rattle.tenant_tables.specs.Lists.{IsOfState};
 ghost use Rattle.tenant_tables.specs.Reads.{ChangesNoRow};
 
 use crate::inventory::inventory_from;
-use crate::tables::Tables;
+use crate::tables::TenantTables;
 use crush_text::canonical_texts_are_ascii;
 use sqlite::Alter;
 use std::alloc::Global;
 use std::rc::Rc;
 use table_schema::find::Tenant;
 use table_schema::rows::{PoolRow, VersionRow};
-use table_schema::values::{Exception, State};
+use table_schema::values::{ExceptionRow, StateRow};
 use tenant_messages::StoreFault;
 use tenant_state::Inventory;
 
@@ -27,7 +27,7 @@ use tenant_state::Inventory;
 /// latched.
 pub fn read_inventory<S: Alter>(
     alloc: Global,
-    tables: &mut Tables<S>,
+    tables: &mut TenantTables<S>,
     tenant: &Tenant,
 ) -> Result<Rc<Inventory>, StoreFault>
     requires live { tables.old.1 ≡ false }
@@ -37,9 +37,9 @@ pub fn read_inventory<S: Alter>(
 {
     canonical_texts_are_ascii();
     let versions: Vec<VersionRow> = tables.list_of(tenant.id)?;
-    let devices: Vec<State> = tables.list_of(tenant.id)?;
+    let devices: Vec<StateRow> = tables.list_of(tenant.id)?;
     let pools: Vec<PoolRow> = tables.list_of(tenant.id)?;
-    let exceptions: Vec<Exception> = tables.list_of(tenant.id)?;
+    let exceptions: Vec<ExceptionRow> = tables.list_of(tenant.id)?;
     match inventory_from(alloc, tenant.epoch, versions, devices, pools, &exceptions)? {
         Some(inventory) => Ok(inventory),
         None => Err(StoreFault::Damaged),

@@ -14,7 +14,7 @@ use crate::inventory::inventory_from;
 use crate::parts::receipt_from;
 use std::alloc::{AllocError, Global};
 use table_schema::rows::{PoolRow, ReceiptRow, VersionRow};
-use table_schema::values::{Exception, State};
+use table_schema::values::{ExceptionRow, StateRow};
 use tenant_state::{Receipts, TenantState};
 
 /// Returns the receipts of `rows`, in the order of their request numbers. `None`, exactly where
@@ -40,9 +40,9 @@ pub fn from_rows(
     alloc: Global,
     epoch: i64,
     versions: Vec<VersionRow>,
-    states: Vec<State>,
+    states: Vec<StateRow>,
     pools: Vec<PoolRow>,
-    exceptions: &[Exception],
+    exceptions: &[ExceptionRow],
     receipts: Vec<ReceiptRow>,
 ) -> Result<Option<TenantState>, AllocError>
     ensures some { IfOk result (λ o. IfSome o (λ s. IsState s × AreRowsOfState s epoch versions.items states.items pools.items exceptions.now receipts.items)) }

@@ -24,19 +24,19 @@ use table_schema::fault::ReadFault;
 use table_schema::find::{Tenant, find};
 use table_schema::lists::{list_of, receipt_of};
 use table_schema::pages::receipts_behind;
-use table_schema::rows::{Listed, ReceiptRow};
+use table_schema::rows::{ListedRow, ReceiptRow};
 use tenant_messages::StoreFault;
 
 /// The tables of a connection. Contracts see the connection, and whether a failure has latched the
 /// tables. After that no further call is made on them.
 #[derive(Drop)]
-pub struct Tables<S: Alter> {
+pub struct TenantTables<S: Alter> {
     conn: Connection<S>,
     pub(crate) alloc: Global,
     is_latched: bool,
 }
 
-impl<S: Alter> Model for Tables<S> {
+impl<S: Alter> Model for TenantTables<S> {
     ghost use Rattle.std.specs.Prelude.{◌≡◌, false, Bool};
     ghost use Rattle.std.specs.Coded.{coded×, coded_bool};
     ghost use Rattle.sqlite.specs.Held.{Held, held_code, state};
@@ -80,7 +80,7 @@ fn answered<T>(is_latched: &mut bool, answer: Result<T, ReadFault>) -> Result<T,
     latched(is_latched, answer)
 }
 
-impl<S: Alter + Drop> Tables<S> {
+impl<S: Alter + Drop> TenantTables<S> {
     /// Opens the tables of a connection. They are made where the database has none, those of schema
     /// 1 are replaced, and else they are tested: the whole schema, its version, and that rows are
     /// stored by rowid. So what the other calls rest on holds of each file that is opened, and no
@@ -90,7 +90,7 @@ impl<S: Alter + Drop> Tables<S> {
     /// Nothing is changed. `Err((StoreFault::NoMemory, store))`, `Err((StoreFault::Full, store))`,
     /// `Err((StoreFault::Failed, store))`: the tables may have been made, or those of schema 1
     /// replaced, and no row of a tenant is lost.
-    pub fn open(alloc: Global, conn: Connection<S>) -> Result<Tables<S>, (StoreFault, S)>
+    pub fn open(alloc: Global, conn: Connection<S>) -> Result<TenantTables<S>, (StoreFault, S)>
         requires autocommit { conn.in_transaction ≡ false }
         requires open { HasCleanDisk (state S.Store conn) → IsTrue (state S.Store conn).is_open }
         requires settled { HasCleanDisk (state S.Store conn) → (state S.Store conn).now ≡ (state S.Store conn).committed }
@@ -115,7 +115,7 @@ impl<S: Alter + Drop> Tables<S> {
             Err((fault, store)) => return Err((fault, store)),
         };
         match get_ready(&mut conn) {
-            Ok(()) => Ok(Tables {
+            Ok(()) => Ok(TenantTables {
                 conn,
                 alloc,
                 is_latched: false,
@@ -125,12 +125,12 @@ impl<S: Alter + Drop> Tables<S> {
     }
 }
 
-impl<S: Alter> Tables<S> {
+impl<S: Alter> TenantTables<S> {
     /// Gives the connection back unchanged.
     pub fn close(self) -> Connection<S>
         ensures { result ≡ self.0 }
     {
-        let Tables {
+        let TenantTables {
             conn,
             alloc: _,
             is_latched: _,
@@ -183,7 +183,7 @@ impl<S: Alter> Tables<S> {
     ///
     /// No row is changed. `Err(StoreFault::Damaged)`: a key occurs twice, or a row is none that
     /// this service writes. `Err(StoreFault::Failed)`: the tables are latched.
-    pub fn list_of<T: Listed + Drop>(&mut self, id: i64) -> Result<Vec<T>, StoreFault>
+    pub fn list_of<T: ListedRow + Drop>(&mut self, id: i64) -> Result<Vec<T>, StoreFault>
         requires live { self.old.1 ≡ false }
         ensures found { HasCleanDisk (state S.Store self.new.0) → IfOk result (λ list. ListsBy T.before (of_tenant T.table id (state S.Store self.old.0).now.trees) (map T.values list.items)) }
         ensures damaged { HasCleanDisk (state S.Store self.new.0) → result ≡ Err StoreFault.Damaged → (list : _) → AllByRecursion T.is_one list → ¬ ListsBy T.before (of_tenant T.table id (state S.Store self.old.0).now.trees) list }

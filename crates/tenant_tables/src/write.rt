@@ -10,7 +10,7 @@ ghost use Rattle.table_schema.specs.Ready.{Keeps, Commits, IsReady, Refuses};
 use sqlite::types::ValueRef;
 use sqlite::{Alter, Connection, Error, Transaction};
 use table_schema::refuse::refusal;
-use table_schema::values::{Exception, Pool, Receipt, State};
+use table_schema::values::{ExceptionRow, PoolValues, ReceiptValues, StateRow};
 use tenant_messages::StoreFault;
 
 /// A statement that writes, with its values. `id` is the number of a tenant.
@@ -39,11 +39,11 @@ pub enum Write<'a> {
     },
     AddState {
         id: i64,
-        state: State,
+        state: StateRow,
     },
     AddPool {
         id: i64,
-        pool: Pool<'a>,
+        pool: PoolValues<'a>,
     },
     RemovePool {
         id: i64,
@@ -51,7 +51,7 @@ pub enum Write<'a> {
     },
     AddException {
         id: i64,
-        exception: Exception,
+        exception: ExceptionRow,
     },
     ClearExceptions {
         id: i64,
@@ -59,7 +59,7 @@ pub enum Write<'a> {
     },
     AddReceipt {
         id: i64,
-        receipt: Receipt<'a>,
+        receipt: ReceiptValues<'a>,
     },
 }
 

@@ -2,8 +2,8 @@
 use Rattle.std.specs.Prelude.{◌≡◌, ℕ, false, List, length, slice_index_or, Option, None, Some}
 use Rattle.crush_bucket.specs.Tables.{TablesView}
 use Rattle.crush_choose.specs.declared.firstn.FirstnCall.{FirstnCall}
-use Rattle.crush_choose.specs.declared.firstn.Decision.{Decision}
-use Rattle.crush_choose.specs.declared.firstn.Decision.TheVariants as decision
+use Rattle.crush_choose.specs.declared.firstn.RepOutcome.{RepOutcome}
+use Rattle.crush_choose.specs.declared.firstn.RepOutcome.TheVariants as decision
 use Rattle.crush_choose.specs.declared.mark.Mark.{Mark}
 use Rattle.crush_choose.specs.declared.mark.Mark.TheVariants.{Skipped, Placed}
 use Rattle.crush_choose.specs.declared.mark.Spot.{Spot}
@@ -13,11 +13,11 @@ use Rattle.crush_choose.specs.Private.Reachable.{firstn_can_place}
 -- ---- firstn
 
 -- the decision is the rep's mark, or that no try of any rep can place an item
-abbrev pub IsDecision : TablesView → List ℕ → FirstnCall → List Slot → List Slot → Option Mark → Decision → Type 0
+abbrev pub IsDecision : TablesView → List ℕ → FirstnCall → List Slot → List Slot → Option Mark → RepOutcome → Type 0
 IsDecision t w c items leaves mark (decision.Mark made) = made ≡ mark
 IsDecision t w c items leaves mark decision.Hopeless = firstn_can_place t w c items leaves ≡ false
 
-abbrev pub mark_in : Decision → Option Mark
+abbrev pub mark_in : RepOutcome → Option Mark
 mark_in (decision.Mark made) = made
 mark_in decision.Hopeless = None
 

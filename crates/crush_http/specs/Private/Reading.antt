@@ -12,7 +12,7 @@ use Rattle.crush_http.specs.declared.headers.Values.{Values}
 use Rattle.crush_http.specs.declared.headers.Values.TheVariants.{None, One, Many}
 use Rattle.crush_http.specs.declared.message.Incoming.{Incoming}
 use Rattle.crush_http.specs.declared.message.Incoming.TheVariants as incoming
-use Rattle.crush_http.specs.declared.request.Request.{Request}
+use Rattle.crush_http.specs.declared.request.MessagePlaces.{MessagePlaces}
 use Rattle.crush_http.specs.declared.rejection.Rejection.{Rejection}
 
 -- bytes were read, and `Holds` holds of those that were there, followed by the bytes read
@@ -36,7 +36,7 @@ IsSize (Err reason) size = size ≡ rejected reason
 -- ---- a head
 
 -- the buffer begins with the head of the request
-pub record IsRequest (buffer : List ℕ) (r : Request) (head : RequestHead) : Type 0 where
+pub record IsRequest (buffer : List ℕ) (r : MessagePlaces) (head : RequestHead) : Type 0 where
   pub begins : HeadAt buffer head (drop r.len buffer)
   pub within : r.len ≤ length buffer
   pub method_within : IsWithin (length buffer) r.method
@@ -48,10 +48,10 @@ pub record IsRequest (buffer : List ℕ) (r : Request) (head : RequestHead) : Ty
   pub closes : r.closes ≡ closes head
 
 -- the number of bytes that belong to the message, of the `count` bytes in the buffer
-abbrev pub used : Request → ℕ → ℕ
+abbrev pub used : MessagePlaces → ℕ → ℕ
 used r count = r.len + min r.size (count - r.len)
 
-abbrev pub call_in : List ℕ → Request → List ℕ → Call
+abbrev pub call_in : List ℕ → MessagePlaces → List ℕ → Call
 call_in buffer r body = record { method = span_bytes buffer r.method; path = span_bytes buffer r.path; body = body }
 
 -- ---- a body
@@ -63,7 +63,7 @@ IsBodyOf body first all = all ≡ body ++ drop (length body) first
 -- ---- a message
 
 -- all bytes begin with the message of the request and the body; the rest is in the buffer
-pub record IsMessageOf (buffer : List ℕ) (r : Request) (body all : List ℕ) : Type 0 where
+pub record IsMessageOf (buffer : List ℕ) (r : MessagePlaces) (body all : List ℕ) : Type 0 where
   pub head : RequestHead
   pub is : IsRequest buffer r head
   pub begins : HeadAt all head (take r.size body ++ drop (used r (length buffer)) buffer)

@@ -6,7 +6,7 @@ use Rattle.crush_choose.specs.declared.limits.TheConstants.{SIZE_LIMIT}
 use Rattle.crush_pool.specs.Placers.{PoolOnMap}
 use Rattle.crush_report.specs.OnMaps.{answer_on, trace_on}
 use Rattle.crush_report.specs.declared.answers.Answers.{Answers}
-use Rattle.crush_report.specs.declared.answers.Traced.{Traced}
+use Rattle.crush_report.specs.declared.answers.TraceMarks.{TraceMarks}
 
 -- the slots from a start to an end
 pub record IsPart (slots : List Slot) (start end : ℕ) (part : List Slot) : Type 0 where
@@ -26,6 +26,6 @@ pub record AreAnswers (p : PoolOnMap) (a : Answers) : Type 0 where
   pub each : AreInOrder p a.slots.items a.starts.items
 
 -- what is stored is whether the device is in traces
-pub record AreTraced (p : PoolOnMap) (device : ℕ) (t : Traced) : Type 0 where
+pub record AreTraced (p : PoolOnMap) (device : ℕ) (t : TraceMarks) : Type 0 where
   pub some : 0 < p.pool.pgp_num
   pub each : (place : ℕ) → place < length t.found.items → slice_index_or t.found.items place false ≡ has_number (trace_on p place) device

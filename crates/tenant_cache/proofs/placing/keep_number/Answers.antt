@@ -1,9 +1,9 @@
 use Rattle.std.proofs.Common.{◌≡◌, Some, inl, inr, subst, sym, ◌∙◌}
-use Rattle.tenant_cache.specs.Kept.{Ready}
+use Rattle.tenant_cache.specs.Kept.{ReadyTenant}
 use Rattle.tenant_cache.specs.Ready.{IsWithNumber}
 use Rattle.tenant_cache.proofs.placing.keep_number.Goals as goal
 
-some_is : (r s : Ready) → Some r ≡ Some s → r ≡ s
+some_is : (r s : ReadyTenant) → Some r ≡ Some s → r ≡ s
 some_is r s is = cc
 
 -- the entry that was put is the same, with the number

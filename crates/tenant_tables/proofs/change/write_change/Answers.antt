@@ -9,7 +9,7 @@ use Rattle.tenant_state.specs.Made.{made_of}
 use Rattle.tenant_state.specs.State.{Change, TenantState, after, epoch}
 use Rattle.tenant_state.specs.Valid.{IsChange}
 use Rattle.tenant_tables.specs.Change.{Accepts}
-use Rattle.tenant_tables.specs.declared.commit.Accepted.{Accepted}
+use Rattle.tenant_tables.specs.declared.commit.CommitHead.{CommitHead}
 use Rattle.tenant_tables.specs.Changes.{IsChangeable, Turns}
 use Rattle.tenant_tables.specs.Commits.{HasPoolsFor, rows_with_made}
 use Rattle.tenant_tables.proofs.Accepted.{made_is, number_of, pools_of, receipt_is, word, word_is}
@@ -32,7 +32,7 @@ write_made-requires-clause-suits g c clean =
     (subst (λ (x : Change). HasPoolsFor (state g.S.Store c.args.tables.now.0).now.trees c.args.tenant.now.id x.made) (sym c.change.view_is) has)
 
 -- what each change writes here
-abbrev written : (g : given.Over) → goal.After-write_made g → Accepted
+abbrev written : (g : given.Over) → goal.After-write_made g → CommitHead
 written g c = record { id = word c.args.tenant.now.id; epoch = word c.in-Some.epoch; receipt = c.receipt_values-receipt.result }
 
 -- what is written stands for the state after the change

@@ -3,14 +3,14 @@ use Rattle.std.proofs.lemmas.Int.{to_z-of_z}
 use mir.Val.{SFits}
 use mir.Syntax.{w64}
 use Rattle.tenant_tables.specs.declared.write.Write.TheVariants.{Raise, AddReceipt}
-use Rattle.table_schema.specs.declared.values.Exception.{Exception}
+use Rattle.table_schema.specs.declared.values.ExceptionRow.{ExceptionRow}
 use Rattle.tenant_tables.specs.Run.{pool_writes, exception_writes}
 use Rattle.tenant_tables.proofs.RunFacts.{exceptions_more}
 use Rattle.tenant_tables.proofs.commit.exception_writes_for.Goals as goal
 
 pub loop-exception-preserved : goal.loop-exception-preserved
 loop-exception-preserved c =
-    let none : Exception = record { pool = pos 0; place = pos 0; group = pos 0; from = pos 0; to = pos 0 } in
+    let none : ExceptionRow = record { pool = pos 0; place = pos 0; group = pos 0; from = pos 0; to = pos 0 } in
     let fits-id : SFits w64 c.args.accepted.now.id = search rules in
     record {
       written = exceptions_more _ _ _ c.args.exceptions.now c.loop-exception.exception-index none c.loop-exception.writes.items c.push-in-loop-exception.new.self.items (omega arith) c.loop-exception.invariant.written

@@ -3,7 +3,7 @@ use Rattle.std.proofs.lemmas.Int.{to_z-of_z}
 use mir.Val.{SFits}
 use mir.Syntax.{w64}
 use Rattle.tenant_tables.specs.declared.write.Write.TheVariants.{Raise, AddReceipt}
-use Rattle.table_schema.specs.declared.values.State.{State}
+use Rattle.table_schema.specs.declared.values.StateRow.{StateRow}
 use Rattle.tenant_tables.specs.Run.{state_writes}
 use Rattle.tenant_tables.proofs.RunFacts.{written_more}
 use Rattle.tenant_tables.proofs.commit.writes_for.Goals as goal
@@ -17,8 +17,8 @@ loop-state-init c =
 
 pub loop-state-preserved : goal.loop-state-preserved
 loop-state-preserved c =
-    let none : State = record { device = pos 0; reweight = pos 0; up = pos 0 } in
-    let state : State = get_or c.args.states.now c.loop-state.state-index none in
+    let none : StateRow = record { device = pos 0; reweight = pos 0; up = pos 0 } in
+    let state : StateRow = get_or c.args.states.now c.loop-state.state-index none in
     let fits : SFits w64 state.device = search rules in
     let fits-id : SFits w64 c.args.accepted.now.id = search rules in
     record {

@@ -1,12 +1,12 @@
 use Rattle.std.proofs.Common.{◌≡◌, ◌<◌, ◌+◌, ◌++◌, ◌∷◌, [], pos, map, length, take, drop, slice_index_or, arith, ap, subst, sym, ◌∙◌}
 use Rattle.std.proofs.lemmas.List.{length-take-le, map_push}
 use Rattle.table_schema.specs.Values.{exception_row}
-use Rattle.table_schema.specs.declared.values.Exception.{Exception}
+use Rattle.table_schema.specs.declared.values.ExceptionRow.{ExceptionRow}
 use Rattle.tenant_tables.specs.Rows.{rows_of_pairs}
 use Rattle.tenant_tables.proofs.PairRows.{all_of, item_is, more_pairs, no_pairs, one_more}
 use Rattle.tenant_tables.proofs.pools.pairs_from.Goals as goal
 
-none : Exception
+none : ExceptionRow
 none = record { pool = pos 0; place = pos 0; group = pos 0; from = pos 0; to = pos 0 }
 
 -- a row is that of no pair

@@ -3,7 +3,7 @@ use Rattle.std.specs.Prelude.{All}
 use Rattle.crush_hash.specs.Permutation.{no_id}
 use Rattle.crush_bucket.specs.Private.Ahead.{HasPick, IsStep}
 use Rattle.crush_bucket.specs.Ahead.{IsPick}
-use Rattle.crush_bucket.specs.declared.scratch.Step.{Step}
+use Rattle.crush_bucket.specs.declared.scratch.AheadPick.{AheadPick}
 use Rattle.crush_bucket.proofs.scratch.Scratch.found_in_steps.Goals as goal
 use Rattle.crush_bucket.proofs.scratch.Scratch.found_in_steps.Goals.{then-self-x+in_ok-self-inside, else-self-x}
 
@@ -32,8 +32,8 @@ returns-clause-found c =
       | else-self-x w ↦ rw w.self-inside-is (omega arith)
     ] in
     let n = c.in_ok-n.n in
-    let d : Step = record { buckets = []; r = 0; items = [] } in
-    let steps : All (λ (s : Step). IsStep inside.tables.now inside.xs s) inside.steps.items = elim c.if-self-x.branch [
+    let d : AheadPick = record { buckets = []; r = 0; items = [] } in
+    let steps : All (λ (s : AheadPick). IsStep inside.tables.now inside.xs s) inside.steps.items = elim c.if-self-x.branch [
       | then-self-x+in_ok-self-inside w ↦ rw w.self-inside-is c.self.invariant.steps
       | else-self-x w ↦ rw w.self-inside-is c.self.invariant.steps
     ] in

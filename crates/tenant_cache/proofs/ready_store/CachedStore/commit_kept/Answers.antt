@@ -1,5 +1,5 @@
 use Rattle.std.proofs.Common.{◌≡◌, [], Some, ap, option_map, subst, sym, ◌∙◌}
-use Rattle.tenant_cache.specs.Kept.{Ready, Updates}
+use Rattle.tenant_cache.specs.Kept.{ReadyTenant, Updates}
 use Rattle.tenant_state.specs.State.{inventory_after}
 use Rattle.tenant_cache.proofs.Following.{committed}
 use Rattle.tenant_cache.proofs.NumberFacts.{known_among, known_put, known_without, true_among, true_same, true_without}
@@ -52,11 +52,11 @@ invariant_of-self-in-Some-2 g c =
           committed (g.T.TenantStore.has_state c.self.inside.below) (g.T.TenantStore.has_state c.commit.new.self) c.self.inside.kept c.get.new.self c.put.new.self c.args.name.now c.args.change.now
           c.in-Some.ready.value next (c.self.invariant.states was_honest open') c.get.ensures.same
           (sym c.in_ok-ready.ensures.found ∙ ap (option_map (λ r. r.value)) c.in-Some.is)
-          (ap (λ (r : Ready). r.inventory) made ∙ ap (λ (r : Ready). inventory_after c.args.change.now r.inventory) c.deref.ensures)
+          (ap (λ (r : ReadyTenant). r.inventory) made ∙ ap (λ (r : ReadyTenant). inventory_after c.args.change.now r.inventory) c.deref.ensures)
           updates there.0 there.1 there.2 (λ x y is also. g.met.T.TenantStore.one_state c.self.inside.below c.args.name.now x y was_honest open' is also)
           (c.in_ok-commit.ensures.made honest there.0 there.1) (c.commit.ensures.others honest live);
       numbers = known_put c.self.inside.cache c.get.new.self c.put.new.self c.args.name.now next
-          (known_among c.self.inside.cache c.self.inside.kept c.get.new.self c.get.ensures.same c.self.invariant.numbers) (ap (λ (r : Ready). r.numbers) made) updates;
+          (known_among c.self.inside.cache c.self.inside.kept c.get.new.self c.get.ensures.same c.self.invariant.numbers) (ap (λ (r : ReadyTenant). r.numbers) made) updates;
     }
 
 -- nothing is kept of the name, and of other names the same as before

@@ -2,7 +2,7 @@ use Rattle.std.proofs.Common.{rules, ◌≡◌, ◌==◌, Some, ap, subst, sym, 
 use Rattle.std.specs.Prelude.{find}
 use Rattle.tenant_core.specs.Cached.{IsCachedFor}
 use Rattle.tenant_core.specs.States.{HasInventory}
-use Rattle.tenant_cache.specs.Kept.{Ready, kept_at}
+use Rattle.tenant_cache.specs.Kept.{ReadyTenant, kept_at}
 use Rattle.tenant_cache.specs.Ready.{AreNumbersOf}
 use Rattle.tenant_state.specs.State.{TenantPool, pool}
 use Rattle.tenant_cache.proofs.FoundFacts.{is_for, own_pool}
@@ -28,7 +28,7 @@ invariant_of-self-in_err-pool g c =
 pub find-requires : goal.find-requires
 find-requires g c =
     let at : kept_at c.self.inside.kept c.args.name.now ≡ Some c.in-Ok-Some.ready.value = search rules in
-    let inventory = c.deref-2.ensures ∙ c.inventory.ensures ∙ ap (λ (r : Ready). r.inventory) (c.deref.ensures ∙ sym c.deref-3.ensures) in
+    let inventory = c.deref-2.ensures ∙ c.inventory.ensures ∙ ap (λ (r : ReadyTenant). r.inventory) (c.deref.ensures ∙ sym c.deref-3.ensures) in
     let known = subst (AreNumbersOf c.self.inside.cache) (sym c.deref-3.ensures) (c.self.invariant.numbers c.args.name.now c.in-Ok-Some.ready.value at) in
     let found : Some c.in_ok-pool.pool.now ≡ find (λ p. p.parts.id == c.in_ok-id.id) c.pools.result.now = search rules in
     let its = sym (found ∙ ap (find (λ (p : TenantPool). p.parts.id == c.in_ok-id.id)) c.pools.ensures) in
@@ -43,7 +43,7 @@ invariant_of-self-in_err-cached g c =
     record {
       states = λ honest live. true_renumbered states c.find.new.cache c.get.new.self c.find.new.kept c.args.name.now c.deref-3.result.now
           (true_among states c.self.inside.kept c.get.new.self c.get.ensures.same (c.self.invariant.states honest live))
-          (subst (λ (r : Ready). HasInventory states c.args.name.now (Some r.inventory)) (sym c.deref-3.ensures) (c.self.invariant.states honest live c.args.name.now c.in-Ok-Some.ready.value at))
+          (subst (λ (r : ReadyTenant). HasInventory states c.args.name.now (Some r.inventory)) (sym c.deref-3.ensures) (c.self.invariant.states honest live c.args.name.now c.in-Ok-Some.ready.value at))
           c.find.ensures.beside;
       numbers = known_renumbered c.self.inside.cache c.find.new.cache c.get.new.self c.find.new.kept c.args.name.now c.deref-3.result.now c.find.ensures.keeps
           (known_among c.self.inside.cache c.self.inside.kept c.get.new.self c.get.ensures.same c.self.invariant.numbers) c.find.ensures.beside;
@@ -56,7 +56,7 @@ invariant_of-self-2 g c =
     record {
       states = λ honest live. true_renumbered states c.find.new.cache c.get.new.self c.find.new.kept c.args.name.now c.deref-3.result.now
           (true_among states c.self.inside.kept c.get.new.self c.get.ensures.same (c.self.invariant.states honest live))
-          (subst (λ (r : Ready). HasInventory states c.args.name.now (Some r.inventory)) (sym c.deref-3.ensures) (c.self.invariant.states honest live c.args.name.now c.in-Ok-Some.ready.value at))
+          (subst (λ (r : ReadyTenant). HasInventory states c.args.name.now (Some r.inventory)) (sym c.deref-3.ensures) (c.self.invariant.states honest live c.args.name.now c.in-Ok-Some.ready.value at))
           c.find.ensures.beside;
       numbers = known_renumbered c.self.inside.cache c.find.new.cache c.get.new.self c.find.new.kept c.args.name.now c.deref-3.result.now c.find.ensures.keeps
           (known_among c.self.inside.cache c.self.inside.kept c.get.new.self c.get.ensures.same c.self.invariant.numbers) c.find.ensures.beside;
@@ -69,7 +69,7 @@ invariant_of-self-in_default-clone g c =
     record {
       states = λ honest live. true_renumbered states c.find.new.cache c.get.new.self c.find.new.kept c.args.name.now c.deref-3.result.now
           (true_among states c.self.inside.kept c.get.new.self c.get.ensures.same (c.self.invariant.states honest live))
-          (subst (λ (r : Ready). HasInventory states c.args.name.now (Some r.inventory)) (sym c.deref-3.ensures) (c.self.invariant.states honest live c.args.name.now c.in-Ok-Some.ready.value at))
+          (subst (λ (r : ReadyTenant). HasInventory states c.args.name.now (Some r.inventory)) (sym c.deref-3.ensures) (c.self.invariant.states honest live c.args.name.now c.in-Ok-Some.ready.value at))
           c.find.ensures.beside;
       numbers = known_renumbered c.self.inside.cache c.find.new.cache c.get.new.self c.find.new.kept c.args.name.now c.deref-3.result.now c.find.ensures.keeps
           (known_among c.self.inside.cache c.self.inside.kept c.get.new.self c.get.ensures.same c.self.invariant.numbers) c.find.ensures.beside;
@@ -78,8 +78,8 @@ invariant_of-self-in_default-clone g c =
 -- what was found for the name is what the query asks for
 pub returns-clause-fits : goal.returns-clause-fits
 returns-clause-fits g c =
-    let first = c.deref-2.ensures ∙ c.inventory.ensures ∙ ap (λ (r : Ready). r.inventory) (c.deref.ensures ∙ sym c.deref-3.ensures) in
-    let second = ap (λ (r : Ready). r.inventory) (c.deref-3.ensures ∙ sym c.deref-4.ensures) ∙ sym c.inventory-2.ensures in
+    let first = c.deref-2.ensures ∙ c.inventory.ensures ∙ ap (λ (r : ReadyTenant). r.inventory) (c.deref.ensures ∙ sym c.deref-3.ensures) in
+    let second = ap (λ (r : ReadyTenant). r.inventory) (c.deref-3.ensures ∙ sym c.deref-4.ensures) ∙ sym c.inventory-2.ensures in
     let found : Some c.in_ok-pool.pool.now ≡ find (λ p. p.parts.id == c.in_ok-id.id) c.pools.result.now = search rules in
     let its = sym (found ∙ ap (find (λ (p : TenantPool). p.parts.id == c.in_ok-id.id)) c.pools.ensures) in
     let there = subst (λ i. pool c.in_ok-id.id i ≡ Some c.in_ok-pool.pool.now) first its in

@@ -1,6 +1,6 @@
 use Rattle.std.proofs.Common.{◌≡◌, Some, ap, option_map, subst, sym, ◌∙◌}
 use Rattle.tenant_core.specs.States.{HasInventory}
-use Rattle.tenant_cache.specs.Kept.{Ready, kept_at}
+use Rattle.tenant_cache.specs.Kept.{ReadyTenant, kept_at}
 use Rattle.tenant_cache.proofs.NumberFacts.{known_among, true_among, true_same}
 use Rattle.tenant_cache.proofs.ready_store.CachedStoreTenantStore.load.Goals as goal
 
@@ -62,5 +62,5 @@ pub returns-in-Some-clause-found : goal.returns-in-Some-clause-found
 returns-in-Some-clause-found g c = rw (← c.self.view_is) (λ honest.
     let open' = rw (← c.self.view_is) at c.requires.open in
     let at : kept_at c.self.inside.kept c.args.name.now ≡ Some c.in-Some.ready.value = sym c.in_ok-ready.ensures.found ∙ ap (option_map (λ r. r.value)) c.in-Some.is in
-    let same : c.in_ok-clone.field-0.value ≡ c.in-Some.ready.value.inventory = c.in_ok-clone.ensures.cases ∙ c.inventory.ensures ∙ ap (λ (r : Ready). r.inventory) c.deref.ensures in
+    let same : c.in_ok-clone.field-0.value ≡ c.in-Some.ready.value.inventory = c.in_ok-clone.ensures.cases ∙ c.inventory.ensures ∙ ap (λ (r : ReadyTenant). r.inventory) c.deref.ensures in
     subst (λ i. HasInventory (g.T.TenantStore.has_state c.self.inside.below) c.args.name.now (Some i)) (sym same) (c.self.invariant.states honest open' c.args.name.now c.in-Some.ready.value at))

@@ -1,5 +1,0 @@
-use Rattle.table_schema.proofs.Listing.{exceptions}
-use Rattle.table_schema.proofs.rows.ExceptionListed.select.Goals as goal
-
-pub returns : goal.returns
-returns c = exceptions

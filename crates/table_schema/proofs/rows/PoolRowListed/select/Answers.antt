@@ -1,5 +1,0 @@
-use Rattle.table_schema.proofs.Listing.{pools}
-use Rattle.table_schema.proofs.rows.PoolRowListed.select.Goals as goal
-
-pub returns : goal.returns
-returns c = pools

@@ -1,5 +1,0 @@
-use Rattle.table_schema.proofs.Listing.{devices}
-use Rattle.table_schema.proofs.rows.StateListed.select.Goals as goal
-
-pub returns : goal.returns
-returns c = devices

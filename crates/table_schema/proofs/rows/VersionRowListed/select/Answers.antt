@@ -1,5 +1,0 @@
-use Rattle.table_schema.proofs.Listing.{versions}
-use Rattle.table_schema.proofs.rows.VersionRowListed.select.Goals as goal
-
-pub returns : goal.returns
-returns c = versions
