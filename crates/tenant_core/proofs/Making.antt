@@ -90,7 +90,7 @@ devices_on cs s a (Some m) h = devices_at cs s a (list_all (λ c. devices.has_de
 
 pool_made : (valid : Type 0) (p : PoolParts) (s : Inventory) (a : Acceptance) (full : Bool) → nat_le POOL_LIMIT (length s.pools) ≡ full → is_some (rule_of s p) ≡ true
     → list_any (is_like p) s.pools ≡ false → (valid → IsMade (NewPool p))
-    → (if full then Err TenantLimit else Ok (record { made = NewPool p; status = Created; body = pools.creation p.id s })) ≡ Ok a
+    → (if full then Err TenantLimit else Ok (record { made = NewPool p; status = Created; body = pools.creation_reply p.id s })) ≡ Ok a
     → Makes valid a.made s
 pool_made valid p s a true is ruled new ranged h = cc
 pool_made valid p s a false is ruled new ranged h =
@@ -99,7 +99,7 @@ pool_made valid p s a false is ruled new ranged h =
 
 pool_taken : (valid : Type 0) (p : PoolParts) (s : Inventory) (a : Acceptance) (taken : Bool) → list_any (is_like p) s.pools ≡ taken → is_some (rule_of s p) ≡ true → (valid → IsMade (NewPool p))
     → (if taken then Err Exists else (if nat_le POOL_LIMIT (length s.pools) then Err TenantLimit
-    else Ok (record { made = NewPool p; status = Created; body = pools.creation p.id s }))) ≡ Ok a → Makes valid a.made s
+    else Ok (record { made = NewPool p; status = Created; body = pools.creation_reply p.id s }))) ≡ Ok a → Makes valid a.made s
 pool_taken valid p s a true is ruled ranged h = cc
 pool_taken valid p s a false is ruled ranged h = pool_made valid p s a (nat_le POOL_LIMIT (length s.pools)) refl ruled is ranged h
 

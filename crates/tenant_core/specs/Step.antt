@@ -26,8 +26,8 @@ use Rattle.tenant_state.specs.declared.receipts.Receipt.{Receipt}
 -- its request number, if it has one. A query leaves the state unchanged
 abbrev pub decision_from : List ℕ → Action → Option Inventory → Option Receipt → Decided
 decision_from tenant CreateTenant found receipt = tenants.created_on tenant found
-decision_from tenant ShowTenant found receipt = if_present found (λ inventory. decided Keep (success (tenants.summary tenant inventory)))
-decision_from tenant DropTenant found receipt = if_present found (λ inventory. decided Remove (success (tenants.removal tenant)))
+decision_from tenant ShowTenant found receipt = if_present found (λ inventory. decided Keep (success (tenants.summary_reply tenant inventory)))
+decision_from tenant DropTenant found receipt = if_present found (λ inventory. decided Remove (success (tenants.removal_reply tenant)))
 decision_from tenant (Command command) found receipt = if_present found (λ inventory. commands.on_receipt command inventory receipt)
 decision_from tenant (Query query) found receipt = if_present found (λ inventory. decided Keep (queries.answer query inventory))
 

@@ -9,19 +9,19 @@ use Rattle.tenant_state.specs.State.{Inventory, newest}
 
 -- ---- bodies of replies
 
-abbrev pub creation : List ℕ → Data
-creation tenant = object (members_of ((codes "epoch", natural 0) ∷ (codes "tenant", string tenant) ∷ []))
+abbrev pub creation_reply : List ℕ → Data
+creation_reply tenant = object (members_of ((codes "epoch", natural 0) ∷ (codes "tenant", string tenant) ∷ []))
 
-abbrev pub summary : List ℕ → Inventory → Data
-summary tenant inventory =
+abbrev pub summary_reply : List ℕ → Inventory → Data
+summary_reply tenant inventory =
     object (members_of ((codes "devices", natural (length inventory.devices)) ∷ (codes "epoch", natural inventory.epoch) ∷ (codes "pools", natural (length inventory.pools))
     ∷ (codes "tenant", string tenant) ∷ (codes "versions", natural (newest inventory)) ∷ []))
 
-abbrev pub removal : List ℕ → Data
-removal tenant = object (members_of ((codes "dropped", string tenant) ∷ []))
+abbrev pub removal_reply : List ℕ → Data
+removal_reply tenant = object (members_of ((codes "dropped", string tenant) ∷ []))
 
 -- ---- creation
 
 abbrev pub created_on : List ℕ → Option Inventory → Decided
-created_on tenant None = decided Create (created (creation tenant))
+created_on tenant None = decided Create (created (creation_reply tenant))
 created_on tenant (Some inventory) = decided Keep (refused Exists)

@@ -13,16 +13,16 @@ use tenant_state::Inventory;
 // ---- bodies of replies
 
 /// Makes the body of the reply to a creation: the epoch 0 and the tenant's name.
-fn creation(alloc: Global, tenant: &str) -> Result<Value, AllocError>
-    ensures { IfOk result (λ v. view v ≡ spec.creation tenant.now) }
+fn creation_reply(alloc: Global, tenant: &str) -> Result<Value, AllocError>
+    ensures { IfOk result (λ v. view v ≡ spec.creation_reply tenant.now) }
 {
     json!(in alloc; {"epoch": 0u64, "tenant": tenant})
 }
 
 /// Makes the body that says what a tenant has: the numbers of states of devices, of pools and of
 /// versions, and its epoch.
-fn summary(alloc: Global, tenant: &str, inventory: &Inventory) -> Result<Value, AllocError>
-    ensures { IfOk result (λ v. view v ≡ spec.summary tenant.now inventory.now) }
+fn summary_reply(alloc: Global, tenant: &str, inventory: &Inventory) -> Result<Value, AllocError>
+    ensures { IfOk result (λ v. view v ≡ spec.summary_reply tenant.now inventory.now) }
 {
     json!(in alloc; {
         "devices": inventory.devices().states().len() as u64,
@@ -34,8 +34,8 @@ fn summary(alloc: Global, tenant: &str, inventory: &Inventory) -> Result<Value, 
 }
 
 /// Makes the body of the reply to a removal: the tenant's name.
-fn removal(alloc: Global, tenant: &str) -> Result<Value, AllocError>
-    ensures { IfOk result (λ v. view v ≡ spec.removal tenant.now) }
+fn removal_reply(alloc: Global, tenant: &str) -> Result<Value, AllocError>
+    ensures { IfOk result (λ v. view v ≡ spec.removal_reply tenant.now) }
 {
     json!(in alloc; {"dropped": tenant})
 }
@@ -44,21 +44,21 @@ fn removal(alloc: Global, tenant: &str) -> Result<Value, AllocError>
 
 /// Makes the reply to the creation of a tenant.
 pub(crate) fn create(alloc: Global, tenant: &str) -> Result<Reply, AllocError>
-    ensures { IfOk result (λ r. r ≡ reply (created (spec.creation tenant.now))) }
+    ensures { IfOk result (λ r. r ≡ reply (created (spec.creation_reply tenant.now))) }
 {
-    created(alloc, &creation(alloc, tenant)?)
+    created(alloc, &creation_reply(alloc, tenant)?)
 }
 
 /// Makes the reply that says what a tenant has.
 pub(crate) fn show(alloc: Global, tenant: &str, inventory: &Inventory) -> Result<Reply, AllocError>
-    ensures { IfOk result (λ r. r ≡ reply (success (spec.summary tenant.now inventory.now))) }
+    ensures { IfOk result (λ r. r ≡ reply (success (spec.summary_reply tenant.now inventory.now))) }
 {
-    success(alloc, &summary(alloc, tenant, inventory)?)
+    success(alloc, &summary_reply(alloc, tenant, inventory)?)
 }
 
 /// Makes the reply to the removal of a tenant.
 pub(crate) fn drop_tenant(alloc: Global, tenant: &str) -> Result<Reply, AllocError>
-    ensures { IfOk result (λ r. r ≡ reply (success (spec.removal tenant.now))) }
+    ensures { IfOk result (λ r. r ≡ reply (success (spec.removal_reply tenant.now))) }
 {
-    success(alloc, &removal(alloc, tenant)?)
+    success(alloc, &removal_reply(alloc, tenant)?)
 }

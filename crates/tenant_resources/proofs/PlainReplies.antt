@@ -11,7 +11,7 @@ use Rattle.crush_map.specs.declared.draft.Rule.{Rule}
 use Rattle.crush_pool.specs.declared.exceptions.Pair.{Pair}
 use Rattle.tenant_messages.proofs.PlainSlots.{slots_plain, ids_plain}
 use Rattle.tenant_resources.specs.Exceptions.{exceptions_reply, pair_json}
-use Rattle.tenant_resources.specs.RuleTests.{outcome, tested}
+use Rattle.tenant_resources.specs.RuleTests.{outcome, test_reply}
 use Rattle.tenant_state.specs.State.{Inventory, TenantPool}
 
 -- ---- exceptions
@@ -28,5 +28,5 @@ exceptions_plain inventory p = rw (pairs_plain p.pairs) refl
 outcome_plain : (e v : ℕ) (slots : List Slot) (ids : List ℕ) → has_float (outcome e v slots ids) ≡ false
 outcome_plain e v slots ids = rw (slots_plain slots, ids_plain ids) refl
 
-pub tested_plain : (e v : ℕ) (m : Map) (weights : List ℕ) (rule : Rule) (x size : ℕ) → has_float (tested e v m weights rule x size) ≡ false
+pub tested_plain : (e v : ℕ) (m : Map) (weights : List ℕ) (rule : Rule) (x size : ℕ) → has_float (test_reply e v m weights rule x size) ≡ false
 tested_plain e v m weights rule x size = outcome_plain e v (rule_answer (tables_of m) weights rule.steps x size) (rule_trace (tables_of m) weights rule.steps x size)

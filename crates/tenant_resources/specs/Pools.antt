@@ -127,15 +127,15 @@ removal_request_of body = option_and_then removal_of (value_of body)
 -- ---- creating a pool
 
 -- {"epoch": E, "pool": id}
-abbrev pub creation : ℕ → Inventory → Data
-creation id inventory = object (members_of ((codes "epoch", natural (suc inventory.epoch)) ∷ (codes "pool", natural id) ∷ []))
+abbrev pub creation_reply : ℕ → Inventory → Data
+creation_reply id inventory = object (members_of ((codes "epoch", natural (suc inventory.epoch)) ∷ (codes "pool", natural id) ∷ []))
 
 abbrev pub on_rule : PoolParts → Inventory → Option Rule → Result Acceptance Problem
 on_rule p inventory None = Err NoRule
 on_rule p inventory (Some rule) =
     if list_any (is_like p) inventory.pools then Err Exists
     else (if nat_le POOL_LIMIT (length inventory.pools) then Err TenantLimit
-    else Ok (record { made = NewPool p; status = Created; body = creation p.id inventory }))
+    else Ok (record { made = NewPool p; status = Created; body = creation_reply p.id inventory }))
 
 -- the newest version has to have the pool's rule
 abbrev pub on_version : PoolParts → Inventory → Option Map → Result Acceptance Problem
@@ -148,12 +148,12 @@ created p inventory = on_version p inventory (version (newest inventory) invento
 -- ---- removing a pool
 
 -- {"epoch": E, "removed": id}
-abbrev pub removal : ℕ → Inventory → Data
-removal id inventory = object (members_of ((codes "epoch", natural (suc inventory.epoch)) ∷ (codes "removed", natural id) ∷ []))
+abbrev pub removal_reply : ℕ → Inventory → Data
+removal_reply id inventory = object (members_of ((codes "epoch", natural (suc inventory.epoch)) ∷ (codes "removed", natural id) ∷ []))
 
 abbrev pub on_pool : ℕ → Inventory → Option TenantPool → Result Acceptance Problem
 on_pool id inventory None = Err NoPool
-on_pool id inventory (Some p) = Ok (record { made = RemovedPool id; status = Done; body = removal id inventory })
+on_pool id inventory (Some p) = Ok (record { made = RemovedPool id; status = Done; body = removal_reply id inventory })
 
 abbrev pub removed : ℕ → Inventory → Result Acceptance Problem
 removed id inventory = on_pool id inventory (pool id inventory)

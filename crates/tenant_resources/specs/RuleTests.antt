@@ -69,13 +69,13 @@ outcome e v items trace =
     ∷ (codes "trace", list_json (map natural trace)) ∷ (codes "version", natural v) ∷ []))
 
 -- what the steps give for an input, with these reweights of devices
-abbrev pub tested : ℕ → ℕ → Map → List ℕ → Rule → ℕ → ℕ → Data
-tested e v m weights rule x size =
+abbrev pub test_reply : ℕ → ℕ → Map → List ℕ → Rule → ℕ → ℕ → Data
+test_reply e v m weights rule x size =
     outcome e v (rule_answer (tables_of m) weights rule.steps x size) (rule_trace (tables_of m) weights rule.steps x size)
 
 abbrev pub on_rule : RuleTest → Inventory → ℕ → Map → Option Rule → Answer
 on_rule t inventory v m None = refused NoRule
-on_rule t inventory v m (Some rule) = success (tested inventory.epoch v m (weights_of (reweights inventory.devices)) rule t.x t.size)
+on_rule t inventory v m (Some rule) = success (test_reply inventory.epoch v m (weights_of (reweights inventory.devices)) rule t.x t.size)
 
 abbrev pub on_version : RuleTest → Inventory → ℕ → Option Map → Answer
 on_version t inventory v None = refused NoVersion

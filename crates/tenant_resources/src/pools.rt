@@ -160,9 +160,9 @@ fn is_taken(parts: &PoolParts, pools: &Pools) -> bool
 }
 
 /// Makes the body of the reply: the epoch after the creation, and the pool's id.
-fn creation(alloc: Global, id: u32, inventory: &Inventory) -> Result<Value, AllocError>
+fn creation_reply(alloc: Global, id: u32, inventory: &Inventory) -> Result<Value, AllocError>
     requires receipts { inventory.now.epoch < 2 ^ 32 }
-    ensures { IfOk result (λ v. view v ≡ spec.creation id inventory.now) }
+    ensures { IfOk result (λ v. view v ≡ spec.creation_reply id inventory.now) }
 {
     json!(in alloc; {"epoch": inventory.epoch() + 1, "pool": id})
 }
@@ -206,16 +206,16 @@ pub fn create(alloc: Global, pool: &Pool, inventory: &Inventory) -> Result<Accep
     Ok(Acceptance {
         made: Product::Pool(shared(alloc, pool)?),
         status: SuccessStatus::Created,
-        body: creation(alloc, parts.id, inventory)?,
+        body: creation_reply(alloc, parts.id, inventory)?,
     })
 }
 
 // ---- removing a pool
 
 /// Makes the body of the reply: the epoch after the removal, and the pool's id.
-fn removal(alloc: Global, id: u32, inventory: &Inventory) -> Result<Value, AllocError>
+fn removal_reply(alloc: Global, id: u32, inventory: &Inventory) -> Result<Value, AllocError>
     requires receipts { inventory.now.epoch < 2 ^ 32 }
-    ensures { IfOk result (λ v. view v ≡ spec.removal id inventory.now) }
+    ensures { IfOk result (λ v. view v ≡ spec.removal_reply id inventory.now) }
 {
     json!(in alloc; {"epoch": inventory.epoch() + 1, "removed": id})
 }
@@ -233,6 +233,6 @@ pub fn remove(alloc: Global, id: u32, inventory: &Inventory) -> Result<Acceptanc
     Ok(Acceptance {
         made: Product::NoPool(id),
         status: SuccessStatus::Done,
-        body: removal(alloc, id, inventory)?,
+        body: removal_reply(alloc, id, inventory)?,
     })
 }

@@ -94,7 +94,7 @@ fn outcome(
 
 /// Runs a rule of a version on the reweights `weights` (16.16 fixed point), and makes the body of
 /// the reply. `Err(AllocError)`: an allocation failed; nothing is changed.
-fn tested(
+fn test_reply(
     alloc: Global,
     epoch: u64,
     number: u64,
@@ -104,7 +104,7 @@ fn tested(
     test: &RuleTest,
 ) -> Result<Value, AllocError>
     requires rule { CanRun (tables_of version.now) rule.now }
-    ensures { IfOk result (λ v. view v ≡ spec.tested epoch number version.now weights.now rule.now test.now.x test.now.size) }
+    ensures { IfOk result (λ v. view v ≡ spec.test_reply epoch number version.now weights.now rule.now test.now.x test.now.size) }
 {
     traces_ascend();
     let tables = version.tables();
@@ -135,7 +135,7 @@ fn answer_on(
 {
     let rule = rule_with_id(version.map(), test.rule).ok_or(Problem::NoRule)?;
     let weights = inventory.devices().weights();
-    let body = tested(
+    let body = test_reply(
         alloc,
         inventory.epoch(),
         number,

@@ -1,7 +1,7 @@
 use Rattle.std.proofs.Common.{◌≡◌, ◌∙◌, IfOk, subst}
 use Rattle.serde_json.specs.View.{view}
 use Rattle.tenant_resources.proofs.Testing.{tested_is}
-use Rattle.tenant_resources.proofs.rule_tests.tested.Goals as goal
+use Rattle.tenant_resources.proofs.rule_tests.test_reply.Goals as goal
 
 pub returns : goal.returns
 returns c =
