@@ -93,7 +93,7 @@ IMPORT = {
     "step": "setting set_value",
     "Judge::items_of": "named_places arranged",
     "Judge::step_of": "set_step",
-    "Known::contents_fault": "has_equal_weights",
+    "SymbolTable::contents_fault": "has_equal_weights",
     "Numbers::add": "table_of",
     "write_step": "write_set_step",
     "widest_of": "size",

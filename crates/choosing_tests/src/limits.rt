@@ -3,7 +3,7 @@
 use crate::drafts::{ONE, SOUND, Short, bucket, choose, generated};
 use crate::rules::ask;
 use crush_map::limits::{BUCKET_LIMIT, DEVICE_LIMIT};
-use crush_map::{Bucket, ItemId, Kind, Listed, Step};
+use crush_map::{Bucket, ItemId, Kind, Sequence, Step};
 use std::alloc::{AllocError, Global};
 use std::test::Fail;
 
@@ -47,7 +47,7 @@ fn host(alloc: Global, device: i32) -> Result<Bucket, AllocError> {
 /// Makes the hosts -2 - device; the racks `FIRST_RACK` - k, trees of 32 hosts: rack k has those of
 /// the devices from 32 k on, and all its weight is in that of device 33 k; and a root of the racks,
 /// all of whose weight is in rack 17.
-fn all_buckets(alloc: Global) -> Result<Listed<Bucket>, AllocError> {
+fn all_buckets(alloc: Global) -> Result<Sequence<Bucket>, AllocError> {
     let mut all = Vec::new(alloc);
     for device in 0..HOSTS {
         all.push(host(alloc, device)?)?;
@@ -59,7 +59,7 @@ fn all_buckets(alloc: Global) -> Result<Listed<Bucket>, AllocError> {
     }
     let root = (-1, 10, Kind::List);
     all.push(spread(alloc, root, FIRST_RACK, RACKS, 17)?)?;
-    Ok(Listed::new(all))
+    Ok(Sequence::new(all))
 }
 
 const ONE_DEVICE: Step = choose!(true, false, 1, 0);

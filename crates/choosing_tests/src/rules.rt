@@ -10,7 +10,7 @@ use Kind::{List, Straw2, Tree, Uniform};
 use crush_bucket::{Scratch, Tables};
 use crush_choose::limits::SIZE_LIMIT;
 use crush_choose::{Out, Slot, Weights, is_in, laws, run_rule};
-use crush_map::{Bucket, CrushMap, ItemId, Kind, Listed, MapDraft, Rule, Step, Tunables};
+use crush_map::{Bucket, CrushMap, ItemId, Kind, MapDraft, Rule, Sequence, Step, Tunables};
 use std::alloc::{AllocError, Global};
 use std::process::Abort;
 use std::test::Fail;
@@ -164,7 +164,10 @@ fn row(first: i32, step: i32, weight: u32) -> [(i32, u32); 4] {
 
 /// Makes a root of 3 racks of 4 hosts of 3 devices, with a kind for each level; ids fall from -2
 /// on, and the root has -1.
-pub(crate) fn three_levels(alloc: Global, kinds: [Kind; 3]) -> Result<Listed<Bucket>, AllocError> {
+pub(crate) fn three_levels(
+    alloc: Global,
+    kinds: [Kind; 3],
+) -> Result<Sequence<Bucket>, AllocError> {
     let [of_root, of_racks, of_hosts] = kinds;
     let mut all = Vec::new(alloc);
     let mut device = 0;
@@ -178,7 +181,7 @@ pub(crate) fn three_levels(alloc: Global, kinds: [Kind; 3]) -> Result<Listed<Buc
     }
     let racks = row(-6, -5, 12 * ONE);
     all.push(bucket(alloc, -1, 10, of_root, &racks[..3])?)?;
-    Ok(Listed::new(all))
+    Ok(Sequence::new(all))
 }
 
 /// The maps that are asked with: the kinds of their levels, and tunables.

@@ -4,8 +4,8 @@ use crush_map::limits::{
     BUCKET_LIMIT, DEVICE_LIMIT, ITEM_LIMIT, RULE_LIMIT, STEP_LIMIT, TYPE_LIMIT,
 };
 use crush_map::{
-    Bucket, CrushMap, Device, ItemId, Kind, Listed, MapDraft, MapFault, Rule, Step, Text, Tunables,
-    TypeName, Weight,
+    Bucket, CrushMap, Device, ItemId, Kind, MapDraft, MapFault, Rule, Sequence, Step, Text,
+    Tunables, TypeName, Weight,
 };
 use std::alloc::{AllocError, Global};
 use std::io;
@@ -65,34 +65,34 @@ fn name(alloc: Global, letter: char, number: u32) -> Result<Text, AllocError> {
     Ok(Text::new(format!(in alloc; "{letter}{number:063}")?))
 }
 
-fn types(alloc: Global) -> Result<Listed<TypeName>, AllocError> {
+fn types(alloc: Global) -> Result<Sequence<TypeName>, AllocError> {
     let mut types = Vec::new(alloc);
     for number in 0..TYPES {
         let name = name(alloc, 't', number)?;
         types.push(TypeName { number, name })?;
     }
-    Ok(Listed::new(types))
+    Ok(Sequence::new(types))
 }
 
-fn devices(alloc: Global) -> Result<Listed<Device>, AllocError> {
+fn devices(alloc: Global) -> Result<Sequence<Device>, AllocError> {
     let mut devices = Vec::new(alloc);
     for id in 0..DEVICES {
         let name = name(alloc, 'd', id)?;
         devices.push(Device { id, name })?;
     }
-    Ok(Listed::new(devices))
+    Ok(Sequence::new(devices))
 }
 
 /// Makes as many devices as a bucket may have, each with the same weight.
-fn items(alloc: Global) -> Result<Listed<(ItemId, Weight)>, AllocError> {
+fn items(alloc: Global) -> Result<Sequence<(ItemId, Weight)>, AllocError> {
     let mut items = Vec::new(alloc);
     for id in 0..ITEM_LIMIT as u32 {
         items.push((ItemId(id as i32), Weight(HEAVIEST)))?;
     }
-    Ok(Listed::new(items))
+    Ok(Sequence::new(items))
 }
 
-fn buckets(alloc: Global) -> Result<Listed<Bucket>, AllocError> {
+fn buckets(alloc: Global) -> Result<Sequence<Bucket>, AllocError> {
     let mut buckets = Vec::new(alloc);
     for number in 0..BUCKETS {
         buckets.push(Bucket {
@@ -103,7 +103,7 @@ fn buckets(alloc: Global) -> Result<Listed<Bucket>, AllocError> {
             items: items(alloc)?,
         })?;
     }
-    Ok(Listed::new(buckets))
+    Ok(Sequence::new(buckets))
 }
 
 /// Returns the kind of the bucket with a number; the three kinds take turns.
@@ -115,7 +115,7 @@ fn kind_at(number: u32) -> Kind {
     }
 }
 
-fn rules(alloc: Global) -> Result<Listed<Rule>, AllocError> {
+fn rules(alloc: Global) -> Result<Sequence<Rule>, AllocError> {
     let mut rules = Vec::new(alloc);
     for id in 0..RULES {
         rules.push(Rule {
@@ -125,11 +125,11 @@ fn rules(alloc: Global) -> Result<Listed<Rule>, AllocError> {
             steps: steps(alloc)?,
         })?;
     }
-    Ok(Listed::new(rules))
+    Ok(Sequence::new(rules))
 }
 
 /// Makes a take step of the last bucket, then steps that choose devices.
-fn steps(alloc: Global) -> Result<Listed<Step>, AllocError> {
+fn steps(alloc: Global) -> Result<Sequence<Step>, AllocError> {
     let mut steps = Vec::new(alloc);
     steps.push(Step::Take(ItemId(-(BUCKETS as i32))))?;
     for _ in 1..STEP_LIMIT {
@@ -140,5 +140,5 @@ fn steps(alloc: Global) -> Result<Listed<Step>, AllocError> {
             wanted: 0,
         })?;
     }
-    Ok(Listed::new(steps))
+    Ok(Sequence::new(steps))
 }

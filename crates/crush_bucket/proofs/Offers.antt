@@ -7,7 +7,7 @@ use Rattle.crush_bucket.specs.Bucket.{WeightedItem, word, at}
 use Rattle.crush_bucket.specs.Kinds.{never, time_of, arrival, straw2_place}
 use Rattle.crush_bucket.specs.Straw2Laws.{IsFirst}
 use Rattle.crush_bucket.specs.Private.Soonest.{quotient, time, HasLimits, IsOffered, IsBest}
-use Rattle.crush_bucket.specs.declared.soonest.Soonest.{Soonest}
+use Rattle.crush_bucket.specs.declared.soonest.SoonestItem.{SoonestItem}
 use Rattle.crush_bucket.proofs.Arrivals.{time_small, time_le}
 use Rattle.crush_bucket.proofs.First.{is_place}
 use Rattle.crush_bucket.proofs.Quotients.{time_is}
@@ -15,16 +15,16 @@ use Rattle.crush_bucket.proofs.Quotients.{time_is}
 -- ---- one offer
 
 -- an item that draws no more and weighs no more
-pub passed_over : (old : Soonest) (place draw weight : ℕ) → HasLimits old → draw < 2 ^ 16 → draw ≤ old.draw → weight ≤ old.weight → IsOffered old place (time_of draw weight) old
+pub passed_over : (old : SoonestItem) (place draw weight : ℕ) → HasLimits old → draw < 2 ^ 16 → draw ≤ old.draw → weight ≤ old.weight → IsOffered old place (time_of draw weight) old
 passed_over old place draw weight has small low light =
     record { has_limits = has; either = inl (has.limits draw weight small low light, refl, refl) }
 
 -- one that arrives no sooner
-pub no_better : (old : Soonest) (place draw weight : ℕ) → HasLimits old → time old ≤ time_of draw weight → IsOffered old place (time_of draw weight) old
+pub no_better : (old : SoonestItem) (place draw weight : ℕ) → HasLimits old → time old ≤ time_of draw weight → IsOffered old place (time_of draw weight) old
 no_better old place draw weight has late = record { has_limits = has; either = inl (late, refl, refl) }
 
 -- one that arrives sooner
-pub better : (old new : Soonest) (place draw weight : ℕ) → draw < 2 ^ 16 → time_of draw weight < time old → new ≡ record { place = place; delay = delay draw; draw = min draw 65533; weight = weight } → IsOffered old place (time_of draw weight) new
+pub better : (old new : SoonestItem) (place draw weight : ℕ) → draw < 2 ^ 16 → time_of draw weight < time old → new ≡ record { place = place; delay = delay draw; draw = min draw 65533; weight = weight } → IsOffered old place (time_of draw weight) new
 better old new place draw weight small less is =
     let same : time_of draw weight ≡ quotient (delay draw) weight = time_is draw weight in
     rw is (record {
@@ -37,7 +37,7 @@ better old new place draw weight small less is =
 
 -- ---- over the items
 
-pub offered : (items : List WeightedItem) (x r n : ℕ) (old new : Soonest) → IsBest items x r n old → IsOffered old n (arrival x r (at items n)) new → IsBest items x r (n + 1) new
+pub offered : (items : List WeightedItem) (x r n : ℕ) (old new : SoonestItem) → IsBest items x r n old → IsOffered old n (arrival x r (at items n)) new → IsBest items x r (n + 1) new
 offered items x r n old new is o = elim o.either [
   | inl (later, same, when) ↦ record {
     has_limits = o.has_limits;
@@ -56,7 +56,7 @@ offered items x r n old new is o = elim o.either [
   }
 ]
 
-whole : (items : List WeightedItem) (x r : ℕ) (s : Soonest) → 0 < length items → IsBest items x r (length items) s → IsFirst items x r s.place
+whole : (items : List WeightedItem) (x r : ℕ) (s : SoonestItem) → 0 < length items → IsBest items x r (length items) s → IsFirst items x r s.place
 whole items x r s some is = elim is.is [
   | inl (lt, own) ↦ record {
     within = lt;
@@ -73,12 +73,12 @@ whole items x r s some is = elim is.is [
   }
 ]
 
-pub place_is : (items : List WeightedItem) (x r : ℕ) (s : Soonest) → 0 < length items → IsBest items x r (length items) s → s.place ≡ straw2_place items x r
+pub place_is : (items : List WeightedItem) (x r : ℕ) (s : SoonestItem) → 0 < length items → IsBest items x r (length items) s → s.place ≡ straw2_place items x r
 place_is items x r s some is = sym (is_place items x r s.place (whole items x r s some is))
 
 -- ---- in lanes
 
-pub offered_at : (items : List WeightedItem) (x r from lane hash : ℕ) (old new : Soonest) → IsBest items x r (from + lane) old
+pub offered_at : (items : List WeightedItem) (x r from lane hash : ℕ) (old new : SoonestItem) → IsBest items x r (from + lane) old
     → hash ≡ hash3 x (word (at items (from + lane)).0) r → IsOffered old (from + lane) (time_of (hash % 65536) (at items (from + lane)).1.0) new → IsBest items x r (from + (lane + 1)) new
 offered_at items x r from lane hash old new is same o =
     let e : from + (lane + 1) ≡ from + lane + 1 = omega arith in

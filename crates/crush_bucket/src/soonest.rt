@@ -14,7 +14,7 @@ const LAST: u32 = 65_533;
 /// `delay` over `weight`, rounded down; the best of no items weighs nothing. No item whose draw is
 /// at most `draw` and whose weight is at most `weight` arrives sooner.
 #[derive(Clone, Copy)]
-pub(crate) struct Soonest {
+pub(crate) struct SoonestItem {
     pub(crate) place: usize,
     delay: u64,
     draw: u32,
@@ -23,12 +23,12 @@ pub(crate) struct Soonest {
 
 /// Returns the best of no items.
 #[inline(always)]
-pub(crate) fn nothing() -> Soonest
+pub(crate) fn nothing() -> SoonestItem
     ensures place { result.place ≡ 0 }
     ensures time { time result ≡ never }
     ensures has_limits { HasLimits result }
 {
-    Soonest {
+    SoonestItem {
         place: 0,
         delay: 0,
         draw: 0,
@@ -65,7 +65,7 @@ fn is_sooner(delay: u64, weight: u32, other: u64, other_weight: u32) -> bool
 /// Takes the item at `place` if it arrives before the best so far. An item that draws no more and
 /// weighs no more than the best isn't asked for its delay.
 #[inline(always)]
-pub(crate) fn offer(best: &mut Soonest, place: usize, draw: u32, weight: u32)
+pub(crate) fn offer(best: &mut SoonestItem, place: usize, draw: u32, weight: u32)
     requires small { draw < 2 ^ 16 }
     requires has_limits { HasLimits best.old }
     ensures { IsOffered best.old place (time_of draw weight) best.new }
@@ -73,7 +73,7 @@ pub(crate) fn offer(best: &mut Soonest, place: usize, draw: u32, weight: u32)
     if draw > best.draw || weight > best.weight {
         let delay = delay(draw);
         if is_sooner(delay, weight, best.delay, best.weight) {
-            *best = Soonest {
+            *best = SoonestItem {
                 place,
                 delay,
                 draw: draw.min(LAST),

@@ -7,7 +7,7 @@ ghost use Rattle.crush_bucket.specs.Kinds.{straw2_place, straw2_pick};
 ghost use Rattle.crush_bucket.specs.Private.Soonest.{IsBest};
 
 use crate::list::{word_up_to, words};
-use crate::soonest::{Soonest, nothing, offer};
+use crate::soonest::{SoonestItem, nothing, offer};
 use crush_hash::{hash3_four, hash3_items};
 use crush_map::{ItemId, Weight};
 
@@ -42,7 +42,7 @@ fn straw2_place(items: &[(ItemId, Weight)], x: u32, r: u32) -> usize
 
 /// Offers the eight items from `from` on, in order.
 #[inline(always)]
-fn offer_eight(best: &mut Soonest, items: &[(ItemId, Weight)], x: u32, r: u32, from: usize)
+fn offer_eight(best: &mut SoonestItem, items: &[(ItemId, Weight)], x: u32, r: u32, from: usize)
     requires within { from + 8 ≤ length items.now }
     requires few { length items.now < 2 ^ 16 }
     requires is { IsBest items.now x r from best.old }
@@ -55,7 +55,7 @@ fn offer_eight(best: &mut Soonest, items: &[(ItemId, Weight)], x: u32, r: u32, f
 /// Offers the last items, up to seven, from `from` on, in order. For up to four the hashes of four
 /// lanes are enough.
 #[inline(always)]
-fn offer_rest(best: &mut Soonest, items: &[(ItemId, Weight)], x: u32, r: u32, from: usize)
+fn offer_rest(best: &mut SoonestItem, items: &[(ItemId, Weight)], x: u32, r: u32, from: usize)
     requires within { from ≤ length items.now }
     requires low { length items.now < from + 8 }
     requires few { length items.now < 2 ^ 16 }
@@ -75,7 +75,7 @@ fn offer_rest(best: &mut Soonest, items: &[(ItemId, Weight)], x: u32, r: u32, fr
 /// Offers the `count` items from `from` on, in order, by the hash of each.
 #[inline(always)]
 fn offer_lanes(
-    best: &mut Soonest,
+    best: &mut SoonestItem,
     items: &[(ItemId, Weight)],
     x: u32,
     r: u32,

@@ -6,7 +6,7 @@ use Rattle.crush_map.specs.declared.fault.Element.{Element}
 use Rattle.crush_map.specs.declared.fault.Element.TheVariants.{Types, Devices, Buckets, Rules, End}
 use Rattle.crush_map.specs.declared.draft.Rule.{Rule}
 use Rattle.crush_map.specs.declared.draft.MapDraft.{MapDraft}
-use Rattle.crush_map.specs.Faults.{Known, ◌when◌, or_else, has_number, are_in_range, at_place, first_in, type_fault, with_type, device_fault, with_device, bucket_fault, with_bucket, rule_fault, with_rule, nothing, known_types, known_devices, known_buckets, known_rules, element_fault, end_fault, first_fault}
+use Rattle.crush_map.specs.Faults.{SymbolTable, ◌when◌, or_else, has_number, are_in_range, at_place, first_in, type_fault, with_type, device_fault, with_device, bucket_fault, with_bucket, rule_fault, with_rule, nothing, known_types, known_devices, known_buckets, known_rules, element_fault, end_fault, first_fault}
 use Rattle.crush_map.specs.Map.{Map, IsMap, draft_of}
 use Rattle.crush_bucket.specs.Tables.{tables_of}
 use Rattle.crush_choose.specs.Rules.{CanRun}
@@ -33,10 +33,10 @@ not_false false h = cc
 
 -- some declarations given which a rule has no fault
 record Passes (rule : Rule) : Type 0 where
-  known : Known
+  known : SymbolTable
   faultless : rule_fault known rule ≡ None
 
-each_passes : (place : ℕ) (known : Known) (rules : List Rule) → first_in Rules rule_fault with_rule place known rules ≡ None
+each_passes : (place : ℕ) (known : SymbolTable) (rules : List Rule) → first_in Rules rule_fault with_rule place known rules ≡ None
     → (i : ℕ) (rule : Rule) → slice_get rules i ≡ Some rule → Passes rule
 unfolding first_in
 each_passes place known [] h i rule is = cc

@@ -6,7 +6,7 @@ use Rattle.crush_map.specs.declared.fault.FaultCode.TheVariants.{M1, M11, M12, M
 use Rattle.crush_map.specs.declared.draft.Step.{Step}
 use Rattle.crush_map.specs.declared.draft.Step.TheVariants.{Take, SetChooseTries, SetLeafTries, SetVaryR, SetStable, Choose, Emit}
 use Rattle.crush_map.specs.declared.draft.Rule.{Rule}
-use Rattle.crush_map.specs.Faults.{Known, ◌when◌, or_else, first_of, has_number, is_count, choose_fault, step_fault, steps_fault, rule_checks, rule_fault}
+use Rattle.crush_map.specs.Faults.{SymbolTable, ◌when◌, or_else, first_of, has_number, is_count, choose_fault, step_fault, steps_fault, rule_checks, rule_fault}
 use Rattle.crush_choose.specs.Rules.{reps}
 use Rattle.crush_choose.specs.Private.Runs.{IsChoose, IsStep, no_step}
 use Rattle.crush_map.specs.declared.limits.TheConstants.{TRIES_LIMIT, COUNT_LIMIT, VARY_R_LIMIT, STEP_LIMIT}
@@ -50,7 +50,7 @@ leaf_above : (by_firstn leaf : Bool) (wanted : ℕ) → (leaf && not by_firstn &
 leaf_above by_firstn true wanted h f e = let k = rw (f, e) at h in cc
 leaf_above by_firstn false wanted h f e = refl
 
-choose_ok : (known : Known) (by_firstn leaf : Bool) (n : ℤ) (wanted size : ℕ) → size ≤ SIZE_LIMIT → choose_fault known by_firstn leaf n wanted ≡ None → IsChoose size by_firstn leaf (reps n size) wanted
+choose_ok : (known : SymbolTable) (by_firstn leaf : Bool) (n : ℤ) (wanted size : ℕ) → size ≤ SIZE_LIMIT → choose_fault known by_firstn leaf n wanted ≡ None → IsChoose size by_firstn leaf (reps n size) wanted
 unfolding choose_fault
 choose_ok known by_firstn leaf n wanted size le h =
     let rest = passes_rest (M11 when not (has_number known.types wanted)) _ h in
@@ -58,7 +58,7 @@ choose_ok known by_firstn leaf n wanted size le h =
     let last = passes_first (M14 when (leaf && not by_firstn && (wanted == 0))) _ (passes_rest (M12 when not (is_count n)) _ rest) in
     record { reps = reps_few n size le count; above_leaves = leaf_above by_firstn leaf wanted (test_fails M14 _ last) }
 
-step_ok : (known : Known) (step : Step) (size : ℕ) → size ≤ SIZE_LIMIT → step_fault known step ≡ None → IsStep size step
+step_ok : (known : SymbolTable) (step : Step) (size : ℕ) → size ≤ SIZE_LIMIT → step_fault known step ≡ None → IsStep size step
 unfolding step_fault
 step_ok known (Take id) size le h = tt
 step_ok known (SetChooseTries n) size le h = few M12 TRIES_LIMIT n h
@@ -68,7 +68,7 @@ step_ok known (SetStable n) size le h = few M12 1 n h
 step_ok known (Choose by_firstn leaf n wanted) size le h = choose_ok known by_firstn leaf n wanted size le h
 step_ok known Emit size le h = tt
 
-steps_ok : (known : Known) (steps : List Step) (size : ℕ) → size ≤ SIZE_LIMIT → steps_fault known steps ≡ None → (k : ℕ) → k < length steps → IsStep size (slice_index_or steps k no_step)
+steps_ok : (known : SymbolTable) (steps : List Step) (size : ℕ) → size ≤ SIZE_LIMIT → steps_fault known steps ≡ None → (k : ℕ) → k < length steps → IsStep size (slice_index_or steps k no_step)
 steps_ok known [] size le h k lt = absurd (omega arith)
 steps_ok known (step ∷ steps) size le h zero lt = step_ok known step size le (passes_first (step_fault known step) _ h)
 steps_ok known (step ∷ steps) size le h (suc k) lt = steps_ok known steps size le (passes_rest (step_fault known step) _ h) k (omega arith)
@@ -77,12 +77,12 @@ right_fails : (a b : Bool) → (a || b) ≡ false → b ≡ false
 right_fails true b h = cc
 right_fails false b h = h
 
-pub rule_few : (known : Known) (rule : Rule) → rule_fault known rule ≡ None → length rule.steps ≤ STEP_LIMIT
+pub rule_few : (known : SymbolTable) (rule : Rule) → rule_fault known rule ≡ None → length rule.steps ≤ STEP_LIMIT
 unfolding rule_fault
 rule_few known rule h =
     let check : (M1 when ((length rule.steps == 0) || nat_lt STEP_LIMIT (length rule.steps))) ≡ None = passes (rule_checks known rule) h 5 in
     few_of (length rule.steps) (right_fails _ _ (test_fails M1 _ check))
 
-pub rule_steps : (known : Known) (rule : Rule) (size : ℕ) → size ≤ SIZE_LIMIT → rule_fault known rule ≡ None → (k : ℕ) → k < length rule.steps → IsStep size (slice_index_or rule.steps k no_step)
+pub rule_steps : (known : SymbolTable) (rule : Rule) (size : ℕ) → size ≤ SIZE_LIMIT → rule_fault known rule ≡ None → (k : ℕ) → k < length rule.steps → IsStep size (slice_index_or rule.steps k no_step)
 unfolding rule_fault
 rule_steps known rule size le h = steps_ok known rule.steps size le (passes (rule_checks known rule) h 6)

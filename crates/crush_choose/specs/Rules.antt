@@ -8,7 +8,7 @@ use Rattle.crush_map.specs.declared.draft.Rule.{Rule}
 use Rattle.crush_map.specs.declared.draft.Tunables.{Tunables}
 use Rattle.crush_map.specs.declared.draft.Step.{Step}
 use Rattle.crush_map.specs.declared.draft.Step.TheVariants.{Take, SetChooseTries, SetLeafTries, SetVaryR, SetStable, Choose, Emit}
-use Rattle.crush_map.specs.Faults.{Known, rule_fault, are_in_range, has_number}
+use Rattle.crush_map.specs.Faults.{SymbolTable, rule_fault, are_in_range, has_number}
 use Rattle.crush_bucket.specs.Tables.{TablesView, bucket_numbered}
 use Rattle.crush_choose.specs.declared.firstn.FirstnCall.{FirstnCall}
 use Rattle.crush_choose.specs.declared.indep.IndepCall.{IndepCall}
@@ -19,7 +19,7 @@ use Rattle.crush_choose.specs.Indep.{indep}
 -- the rule has no fault given some declarations, and the tunables are in range, as for every rule
 -- of a map
 pub record CanRun (t : TablesView) (rule : Rule) : Type 0 where
-  pub known : Known
+  pub known : SymbolTable
   pub faultless : rule_fault known rule ≡ None
   pub tunables : are_in_range t.tunables ≡ true
 

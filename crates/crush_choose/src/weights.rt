@@ -6,7 +6,7 @@ ghost use Rattle.crush_choose.specs.Weights.{weights_of, weight_at, reweight_of,
 ghost use Rattle.crush_map.specs.declared.draft.Device.{Device};
 
 use crush_hash::hash2;
-use crush_map::{ByDevice, CrushMap, Device, ItemId};
+use crush_map::{CrushMap, Device, DeviceVec, ItemId};
 use std::alloc::{AllocError, Global};
 use std::marker::Model;
 
@@ -18,7 +18,7 @@ pub const FULL: u32 = 65_536;
 /// have, in order.
 #[derive(Drop)]
 pub struct Weights {
-    by_device: ByDevice<u32>,
+    by_device: DeviceVec<u32>,
 }
 
 impl Model for Weights {
@@ -64,7 +64,7 @@ impl Weights {
         ensures all { IfOk result (λ w. w ≡ weights_of given.now) }
         ensures each { IfOk result (λ w. (id : ℕ) → weight_at w id ≡ reweight_of given.now id) }
     {
-        let by_device = ByDevice::of(alloc, FULL, reached, given)?;
+        let by_device = DeviceVec::of(alloc, FULL, reached, given)?;
         Ok(Weights { by_device })
     }
 

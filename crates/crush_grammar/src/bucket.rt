@@ -15,7 +15,7 @@ use crate::say::{
     alg_of, hash, integer, is, is_token, keyword, name, next, number, out_of_grammar,
 };
 use crate::{Cursor, Name};
-use crush_map::{Kind, Listed, Weight, weight_from_text};
+use crush_map::{Kind, Sequence, Weight, weight_from_text};
 use std::alloc::Global;
 
 /// Reads the name of a bucket.
@@ -284,7 +284,7 @@ fn items<'a>(
                 head: start.head,
                 id: start.id,
                 alg: start.alg,
-                items: Listed::new(items),
+                items: Sequence::new(items),
             };
             return Ok((bucket, rest));
         }

@@ -1,7 +1,7 @@
 //! Declarations as they are written, with names for numbers and numbers of any size.
 
 use crate::Name;
-use crush_map::{Kind, Listed, Weight};
+use crush_map::{Kind, Sequence, Weight};
 
 /// The name of a tunable.
 #[derive(Clone, Copy, Debug, PartialEq, Eq)]
@@ -69,7 +69,7 @@ pub struct DeclaredBucket<'a> {
     pub head: BucketHead<'a>,
     pub id: i64,
     pub alg: Kind,
-    pub items: Listed<DeclaredItem<'a>>,
+    pub items: Sequence<DeclaredItem<'a>>,
 }
 
 /// What a set step sets.
@@ -104,7 +104,7 @@ pub struct DeclaredRule<'a> {
     pub name: Name<'a>,
     pub id: u64,
     pub erasure: bool,
-    pub steps: Listed<DeclaredStep<'a>>,
+    pub steps: Sequence<DeclaredStep<'a>>,
 }
 
 /// A declaration.

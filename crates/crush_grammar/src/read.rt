@@ -16,13 +16,13 @@ use crate::error::ReadError;
 use crate::rule::declared_rule;
 use crate::say::{is, out_of_grammar, type_of};
 use crate::{Cursor, Word};
-use crush_map::Listed;
+use crush_map::Sequence;
 use std::alloc::{AllocError, Global};
 
 /// What a text declares up to its first fault of form, and that fault.
 #[derive(Drop)]
 pub struct Declarations<'a> {
-    pub declarations: Listed<Declaration<'a>>,
+    pub declarations: Sequence<Declaration<'a>>,
     pub fault: Option<TextFault>,
 }
 
@@ -117,7 +117,7 @@ fn stopped<'a>(
     match error {
         ReadError::Memory => Err(AllocError),
         ReadError::Fault(fault) => Ok(Declarations {
-            declarations: Listed::new(found),
+            declarations: Sequence::new(found),
             fault: Some(fault),
         }),
     }
@@ -143,7 +143,7 @@ fn read_words<'a>(alloc: Global, text: &'a [u8]) -> Result<Declarations<'a>, All
         }
     }
     Ok(Declarations {
-        declarations: Listed::new(found),
+        declarations: Sequence::new(found),
         fault: None,
     })
 }

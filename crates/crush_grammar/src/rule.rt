@@ -13,7 +13,7 @@ use crate::say::{
     erasure, firstn, integer, is, keyword, name, next, number, out_of_grammar, rule_id, setting,
 };
 use crate::{Cursor, Name};
-use crush_map::Listed;
+use crush_map::Sequence;
 use std::alloc::Global;
 
 /// Reads the name of a rule.
@@ -257,7 +257,7 @@ fn steps<'a>(
                 name,
                 id,
                 erasure,
-                steps: Listed::new(steps),
+                steps: Sequence::new(steps),
             };
             return Ok((rule, rest));
         }

@@ -4,7 +4,7 @@ use Rattle.std.specs.List.{swap}
 use Rattle.std.proofs.lemmas.Bool.{false≢true}
 use Rattle.std.proofs.lemmas.List.{length-take-le}
 use Rattle.crush_types.specs.declared.ItemId.{ItemId}
-use Rattle.crush_hash.specs.declared.reached.Reached.{Reached}
+use Rattle.crush_hash.specs.declared.reached.Progress.{Progress}
 use Rattle.crush_hash.specs.Permutation.{differing, after_swaps, partner}
 use Rattle.crush_hash.specs.Private.Pairs.{Pair, IsRising, member_at}
 use Rattle.crush_hash.specs.Private.Reached.{IsReached, IsEmpty, swaps_of, len_by, room_of}
@@ -13,7 +13,7 @@ use Rattle.crush_hash.proofs.Differing.{differing_range, rising_differing, membe
 use Rattle.crush_hash.proofs.Exchanging.{own_differs}
 
 -- before the first exchange there are no pairs
-pub new_is : (r : Reached) (row : List Pair) → IsEmpty r → r.size < 2 ^ 32 → room_of r.size ≤ length row → IsReached r row
+pub new_is : (r : Progress) (row : List Pair) → IsEmpty r → r.size < 2 ^ 32 → room_of r.size ≤ length row → IsReached r row
 new_is r row empty small room = record {
   pairs = λ written. rw (empty.len, written, empty.swaps) (sym (differing_range 0 r.size));
   known = λ e. absurd (false≢true (sym e ∙ empty.written));
@@ -65,7 +65,7 @@ first_is id size x q pairs is low none two = elim (either_way q 0) [
 ]
 
 -- `len_by` counts the pairs, written or not
-counted : (r : Reached) (row : List Pair) (written : Bool) → r.written ≡ written → IsReached r row → len_by r ≡ length (differing 0 (after_swaps r.hashes r.size r.x (swaps_of r)))
+counted : (r : Progress) (row : List Pair) (written : Bool) → r.written ≡ written → IsReached r row → len_by r ≡ length (differing 0 (after_swaps r.hashes r.size r.x (swaps_of r)))
 counted r row true is reached = rw is (sym (length-take-le r.len row reached.len) ∙ ap (λ (ps : List Pair). length ps) (reached.pairs is ∙ rw is refl))
 counted r row false is reached =
     let known = reached.known is in
@@ -75,5 +75,5 @@ counted r row false is reached =
       | inr other ↦ rw (is_other r.first 0 other, first_pairs r.hashes r.size r.x r.first known.0 (omega (arith, known.0, w)) other) refl
     ])
 
-pub counted_pairs : (r : Reached) (row : List Pair) → IsReached r row → len_by r ≡ length (differing 0 (after_swaps r.hashes r.size r.x (swaps_of r)))
+pub counted_pairs : (r : Progress) (row : List Pair) → IsReached r row → len_by r ≡ length (differing 0 (after_swaps r.hashes r.size r.x (swaps_of r)))
 counted_pairs r row reached = counted r row r.written refl reached

@@ -4,7 +4,7 @@ ghost use Rattle.std.specs.Prelude.{◌≡◌, ◌<◌, ◌^◌, IfOk, slice_ind
 ghost use Rattle.crush_hash.specs.Permutation.{permutation, asked, kept};
 
 use crate::pairs::Pair;
-use crate::reached::{Reached, room_of};
+use crate::reached::{Progress, room_of};
 use crush_types::ItemId;
 use std::alloc::{AllocError, Global};
 use std::marker::Model;
@@ -16,7 +16,7 @@ use std::marker::Model;
 /// Contracts see the bucket's id and size, that input, and how many exchanges were made for it.
 #[derive(Drop)]
 pub struct Perm {
-    reached: Reached,
+    reached: Progress,
     row: Vec<Pair>,
 }
 
@@ -41,7 +41,7 @@ impl Perm {
     {
         let row = vec![in alloc; (0, 0); room_of(size)]?;
         Ok(Perm {
-            reached: Reached::new(id, size),
+            reached: Progress::new(id, size),
             row,
         })
     }

@@ -7,7 +7,7 @@ ghost use Rattle.crush_hash.specs.Private.Parts.{IsNew, IsPart};
 
 use crate::early::EARLY;
 use crate::pairs::Pair;
-use crate::reached::{Reached, room_of};
+use crate::reached::{Progress, room_of};
 use crush_types::ItemId;
 use std::alloc::{AllocError, Global};
 use std::marker::Model;
@@ -88,7 +88,7 @@ impl Perms {
 /// How far a permutation is made, and the part of the row that its pairs may take.
 #[derive(Drop)]
 struct Slot {
-    reached: Reached,
+    reached: Progress,
     start: usize,
     end: usize,
 }
@@ -102,7 +102,7 @@ impl Slot {
         ensures end { result.end ≡ end }
     {
         Slot {
-            reached: Reached::new(ItemId(0), 0),
+            reached: Progress::new(ItemId(0), 0),
             start,
             end,
         }

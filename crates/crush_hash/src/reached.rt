@@ -15,7 +15,7 @@ use crush_types::ItemId;
 /// pairs of the places at which it differs from the identity stand at the front of a row; those of
 /// an input's first exchange are written there when another place is asked for.
 #[derive(Drop)]
-pub(crate) struct Reached {
+pub(crate) struct Progress {
     pub(crate) size: usize,
     x: u32,
     /// The place with which the first exchange is made, where only that is made and its pairs
@@ -29,13 +29,13 @@ pub(crate) struct Reached {
     hashes: PlaceHashes,
 }
 
-impl Reached {
+impl Progress {
     /// Returns the start, at which no exchange is made.
     pub(crate) fn new(id: ItemId, size: usize) -> Self
         ensures remembered { remembered_by result ≡ record { of = record { id = id; size = size }; x = 0; swaps = 0 } }
         ensures empty { IsEmpty result }
     {
-        Reached {
+        Progress {
             size,
             x: 0,
             first: 0,
@@ -55,7 +55,7 @@ impl Reached {
         ensures reached { (row : List Pair) → room_of size ≤ length row → IsReached self.old row → IsReached self.new row }
     {
         if self.size != size || self.hashes.id() != id {
-            *self = Reached::new(id, size);
+            *self = Progress::new(id, size);
         }
     }
 

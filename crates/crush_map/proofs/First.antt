@@ -5,7 +5,7 @@ use Rattle.crush_map.specs.declared.fault.Element.{Element}
 use Rattle.crush_map.specs.declared.fault.Element.TheVariants.{Types, Devices, Buckets, Rules, End}
 use Rattle.crush_map.specs.declared.fault.MapFault.{MapFault}
 use Rattle.crush_map.specs.declared.draft.MapDraft.{MapDraft}
-use Rattle.crush_map.specs.Faults.{Known, nothing, or_else, at, at_place, first_in, first_fault, element_fault, type_fault, device_fault, bucket_fault, rule_fault, end_fault, with_type, with_device, with_bucket, with_rule, known_types, known_devices, known_buckets, known_rules}
+use Rattle.crush_map.specs.Faults.{SymbolTable, nothing, or_else, at, at_place, first_in, first_fault, element_fault, type_fault, device_fault, bucket_fault, rule_fault, end_fault, with_type, with_device, with_bucket, with_rule, known_types, known_devices, known_buckets, known_rules}
 use Rattle.crush_map.specs.Laws.{Pass, FailsFirst, IsFirstFault, HasNoFault, HasNoElementFault, TypesPass, DevicesPass, BucketsPass}
 use Rattle.crush_map.proofs.Passing.{first_none, second_none}
 use Rattle.crush_map.proofs.Reordered.{not_placed}
@@ -16,7 +16,7 @@ some_is x y h = cc
 
 -- ---- no fault
 
-pub pass : {X : Type 0} (element : Element) (check : Known → X → Option FaultCode) (with : Known → X → Known) (n : ℕ) (k : Known) (xs : List X) →
+pub pass : {X : Type 0} (element : Element) (check : SymbolTable → X → Option FaultCode) (with : SymbolTable → X → SymbolTable) (n : ℕ) (k : SymbolTable) (xs : List X) →
     first_in element check with n k xs ≡ None → Pass check with k xs
 unfolding first_in
 pass element check with n k [] h i = tt
@@ -25,18 +25,18 @@ pass element check with n k (x ∷ xs) h (suc i) = pass element check with (n + 
 
 -- ---- a fault
 
-record Found {X : Type 0} (element : Element) (check : Known → X → Option FaultCode) (with : Known → X → Known) (n : ℕ) (k : Known) (xs : List X) (f : MapFault) : Type 0 where
+record Found {X : Type 0} (element : Element) (check : SymbolTable → X → Option FaultCode) (with : SymbolTable → X → SymbolTable) (n : ℕ) (k : SymbolTable) (xs : List X) (f : MapFault) : Type 0 where
   pub i : ℕ
   pub place : f ≡ at element (n + i) f.code
   pub first : FailsFirst check with k xs i f.code
 
-earlier : {X : Type 0} (check : Known → X → Option FaultCode) (with : Known → X → Known) (k : Known) (x : X) (xs : List X) (i : ℕ) → check k x ≡ None →
+earlier : {X : Type 0} (check : SymbolTable → X → Option FaultCode) (with : SymbolTable → X → SymbolTable) (k : SymbolTable) (x : X) (xs : List X) (i : ℕ) → check k x ≡ None →
     ((j : ℕ) → j < i → IfSome (slice_get xs j) (λ y. check (fold with (with k x) (take j xs)) y ≡ None)) →
     (j : ℕ) → j < suc i → IfSome (slice_get (x ∷ xs) j) (λ y. check (fold with k (take j (x ∷ xs))) y ≡ None)
 earlier check with k x xs i e more zero short = e
 earlier check with k x xs i e more (suc j) short = more j (omega arith)
 
-found_by : {X : Type 0} (element : Element) (check : Known → X → Option FaultCode) (with : Known → X → Known) (n : ℕ) (k : Known) (x : X) (xs : List X) (f : MapFault) (o : Option FaultCode) → check k x ≡ o →
+found_by : {X : Type 0} (element : Element) (check : SymbolTable → X → Option FaultCode) (with : SymbolTable → X → SymbolTable) (n : ℕ) (k : SymbolTable) (x : X) (xs : List X) (f : MapFault) (o : Option FaultCode) → check k x ≡ o →
     or_else (at_place element n o) (first_in element check with (n + 1) (with k x) xs) ≡ Some f →
     (first_in element check with (n + 1) (with k x) xs ≡ Some f → Found element check with (n + 1) (with k x) xs f) → Found element check with n k (x ∷ xs) f
 found_by element check with n k x xs f (Some code) e h more =
@@ -57,7 +57,7 @@ found_by element check with n k x xs f None e h more =
       first = (r.first.0, earlier check with k x xs r.i e r.first.1);
     }
 
-found : {X : Type 0} (element : Element) (check : Known → X → Option FaultCode) (with : Known → X → Known) (n : ℕ) (k : Known) (xs : List X) (f : MapFault) →
+found : {X : Type 0} (element : Element) (check : SymbolTable → X → Option FaultCode) (with : SymbolTable → X → SymbolTable) (n : ℕ) (k : SymbolTable) (xs : List X) (f : MapFault) →
     first_in element check with n k xs ≡ Some f → Found element check with n k xs f
 unfolding first_in
 found element check with n k [] f h = cc
@@ -65,11 +65,11 @@ found element check with n k (x ∷ xs) f h =
     found_by element check with n k x xs f (check k x) refl h (λ later. found element check with (n + 1) (with k x) xs f later)
 
 -- the first fault of a list has the list's name and is at its index
-record FirstOf {X : Type 0} (element : Element) (check : Known → X → Option FaultCode) (with : Known → X → Known) (k : Known) (xs : List X) (f : MapFault) : Type 0 where
+record FirstOf {X : Type 0} (element : Element) (check : SymbolTable → X → Option FaultCode) (with : SymbolTable → X → SymbolTable) (k : SymbolTable) (xs : List X) (f : MapFault) : Type 0 where
   pub element_is : f.element ≡ element
   pub first : FailsFirst check with k xs f.index f.code
 
-first_of_list : {X : Type 0} (element : Element) (check : Known → X → Option FaultCode) (with : Known → X → Known) (k : Known) (xs : List X) (f : MapFault) →
+first_of_list : {X : Type 0} (element : Element) (check : SymbolTable → X → Option FaultCode) (with : SymbolTable → X → SymbolTable) (k : SymbolTable) (xs : List X) (f : MapFault) →
     first_in element check with 0 k xs ≡ Some f → FirstOf element check with k xs f
 first_of_list element check with k xs f h =
     let r = found element check with 0 k xs f h in

@@ -8,7 +8,7 @@ use Rattle.crush_map.specs.declared.draft.Rule.{Rule}
 use Rattle.crush_map.specs.declared.draft.Step.{Step}
 use Rattle.crush_map.specs.declared.draft.Step.TheVariants.{Take, SetChooseTries, SetLeafTries, SetVaryR, SetStable, Choose, Emit}
 use Rattle.crush_map.specs.declared.limits.TheConstants.{TYPE_LIMIT, DEVICE_LIMIT, RULE_LIMIT, STEP_LIMIT, NUMBER_LIMIT, RULE_ID_LIMIT}
-use Rattle.crush_map.specs.Faults.{Known, ◌when◌, has_number, has_name, is_name, is_reserved, steps_fault, step_fault, choose_fault, type_checks, type_fault, with_type, device_checks, device_fault, with_device, rule_checks, rule_fault, with_rule}
+use Rattle.crush_map.specs.Faults.{SymbolTable, ◌when◌, has_number, has_name, is_name, is_reserved, steps_fault, step_fault, choose_fault, type_checks, type_fault, with_type, device_checks, device_fault, with_device, rule_checks, rule_fault, with_rule}
 use Rattle.crush_map.proofs.Passing.{passes, fails}
 use Rattle.crush_map.proofs.Reordered.{Kind, Passes}
 
@@ -20,11 +20,11 @@ not_above a b h = grind (arith, nat_tests)
 
 -- ---- types
 
-pub record OwnType (known : Known) (t : TypeName) : Type 0 where
+pub record OwnType (known : SymbolTable) (t : TypeName) : Type 0 where
   pub in_range : nat_lt NUMBER_LIMIT t.number ≡ false
   pub form : (not (is_name t.name) || is_reserved t.name) ≡ false
 
-pub type_splits : (k : Known) (t : TypeName) → type_fault k t ≡ None → Passes OwnType TYPE_LIMIT (λ t. t.number) (λ t. t.name) k.types k.type_names k t
+pub type_splits : (k : SymbolTable) (t : TypeName) → type_fault k t ≡ None → Passes OwnType TYPE_LIMIT (λ t. t.number) (λ t. t.name) k.types k.type_names k t
 unfolding type_fault
 type_splits k t h = record {
   room = above TYPE_LIMIT (length k.types) (fails M1 _ (passes (type_checks k t) 0 (M1 when nat_le TYPE_LIMIT (length k.types)) refl h));
@@ -36,7 +36,7 @@ type_splits k t h = record {
   new_name = fails M3 _ (passes (type_checks k t) 4 (M3 when has_name k.type_names t.name) refl h);
 }
 
-pub type_joins : (k : Known) (t : TypeName) → Passes OwnType TYPE_LIMIT (λ t. t.number) (λ t. t.name) k.types k.type_names k t → type_fault k t ≡ None
+pub type_joins : (k : SymbolTable) (t : TypeName) → Passes OwnType TYPE_LIMIT (λ t. t.number) (λ t. t.name) k.types k.type_names k t → type_fault k t ≡ None
 unfolding type_fault
 type_joins k t p = rw (not_above TYPE_LIMIT (length k.types) p.room, p.own.in_range, p.new_number, p.own.form, p.new_name) refl
 
@@ -57,11 +57,11 @@ type_kind = record {
 
 -- ---- devices
 
-pub record OwnDevice (known : Known) (d : Device) : Type 0 where
+pub record OwnDevice (known : SymbolTable) (d : Device) : Type 0 where
   pub in_range : nat_lt NUMBER_LIMIT d.id ≡ false
   pub form : not (is_name d.name) ≡ false
 
-pub device_splits : (k : Known) (d : Device) → device_fault k d ≡ None → Passes OwnDevice DEVICE_LIMIT (λ d. d.id) (λ d. d.name) k.items.devices k.item_names k d
+pub device_splits : (k : SymbolTable) (d : Device) → device_fault k d ≡ None → Passes OwnDevice DEVICE_LIMIT (λ d. d.id) (λ d. d.name) k.items.devices k.item_names k d
 unfolding device_fault
 device_splits k d h = record {
   room = above DEVICE_LIMIT (length k.items.devices) (fails M1 _ (passes (device_checks k d) 0 (M1 when nat_le DEVICE_LIMIT (length k.items.devices)) refl h));
@@ -73,7 +73,7 @@ device_splits k d h = record {
   new_name = fails M3 _ (passes (device_checks k d) 4 (M3 when has_name k.item_names d.name) refl h);
 }
 
-pub device_joins : (k : Known) (d : Device) → Passes OwnDevice DEVICE_LIMIT (λ d. d.id) (λ d. d.name) k.items.devices k.item_names k d → device_fault k d ≡ None
+pub device_joins : (k : SymbolTable) (d : Device) → Passes OwnDevice DEVICE_LIMIT (λ d. d.id) (λ d. d.name) k.items.devices k.item_names k d → device_fault k d ≡ None
 unfolding device_fault
 device_joins k d p = rw (not_above DEVICE_LIMIT (length k.items.devices) p.room, p.own.in_range, p.new_number, p.own.form, p.new_name) refl
 
@@ -94,13 +94,13 @@ device_kind = record {
 
 -- ---- rules
 
-pub record OwnRule (known : Known) (r : Rule) : Type 0 where
+pub record OwnRule (known : SymbolTable) (r : Rule) : Type 0 where
   pub in_range : nat_lt RULE_ID_LIMIT r.id ≡ false
   pub form : not (is_name r.name) ≡ false
   pub count : ((length r.steps == 0) || nat_lt STEP_LIMIT (length r.steps)) ≡ false
   pub steps : steps_fault known r.steps ≡ None
 
-pub rule_splits : (k : Known) (r : Rule) → rule_fault k r ≡ None → Passes OwnRule RULE_LIMIT (λ r. r.id) (λ r. r.name) k.rules k.rule_names k r
+pub rule_splits : (k : SymbolTable) (r : Rule) → rule_fault k r ≡ None → Passes OwnRule RULE_LIMIT (λ r. r.id) (λ r. r.name) k.rules k.rule_names k r
 unfolding rule_fault
 rule_splits k r h = record {
   room = above RULE_LIMIT (length k.rules) (fails M1 _ (passes (rule_checks k r) 0 (M1 when nat_le RULE_LIMIT (length k.rules)) refl h));
@@ -114,12 +114,12 @@ rule_splits k r h = record {
   new_name = fails M3 _ (passes (rule_checks k r) 4 (M3 when has_name k.rule_names r.name) refl h);
 }
 
-pub rule_joins : (k : Known) (r : Rule) → Passes OwnRule RULE_LIMIT (λ r. r.id) (λ r. r.name) k.rules k.rule_names k r → rule_fault k r ≡ None
+pub rule_joins : (k : SymbolTable) (r : Rule) → Passes OwnRule RULE_LIMIT (λ r. r.id) (λ r. r.name) k.rules k.rule_names k r → rule_fault k r ≡ None
 unfolding rule_fault
 rule_joins k r p = rw (not_above RULE_LIMIT (length k.rules) p.room, p.own.in_range, p.new_number, p.own.form, p.new_name, p.own.count, p.own.steps) refl
 
 -- the fault of a step depends on the declared types and items alone
-step_behind : (k : Known) (r : Rule) (s : Step) → step_fault (with_rule k r) s ≡ step_fault k s
+step_behind : (k : SymbolTable) (r : Rule) (s : Step) → step_fault (with_rule k r) s ≡ step_fault k s
 unfolding step_fault choose_fault
 step_behind k r (Take id) = refl
 step_behind k r (SetChooseTries tries) = refl
@@ -129,7 +129,7 @@ step_behind k r (SetStable value) = refl
 step_behind k r (Choose firstn leaf n wanted) = refl
 step_behind k r Emit = refl
 
-pub steps_behind : (k : Known) (r : Rule) (steps : List Step) → steps_fault (with_rule k r) steps ≡ steps_fault k steps
+pub steps_behind : (k : SymbolTable) (r : Rule) (steps : List Step) → steps_fault (with_rule k r) steps ≡ steps_fault k steps
 steps_behind k r [] = refl
 steps_behind k r (s ∷ steps) = rw (step_behind k r s, steps_behind k r steps) refl
 

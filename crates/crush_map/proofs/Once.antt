@@ -11,7 +11,7 @@ use Rattle.crush_map.specs.declared.fault.FaultCode.TheVariants.{M2, M3, M12}
 use Rattle.crush_map.specs.declared.fault.Element.TheVariants.{Types, Devices, Buckets, Rules}
 use Rattle.crush_map.specs.declared.draft.Bucket.{Bucket}
 use Rattle.crush_map.specs.declared.limits.TheConstants.{TYPE_LIMIT, DEVICE_LIMIT, RULE_LIMIT}
-use Rattle.crush_map.specs.Faults.{Known, Ids, nothing, ◌when◌, has_id, with_id, has_name, is_bucket_id, bucket_checks, first_in, at_place, type_fault, device_fault, bucket_fault, rule_fault, with_type, with_device, with_bucket, with_rule, known_types, known_devices, known_buckets}
+use Rattle.crush_map.specs.Faults.{SymbolTable, Ids, nothing, ◌when◌, has_id, with_id, has_name, is_bucket_id, bucket_checks, first_in, at_place, type_fault, device_fault, bucket_fault, rule_fault, with_type, with_device, with_bucket, with_rule, known_types, known_devices, known_buckets}
 use Rattle.crush_map.specs.Map.{Map, draft_of, IsMap}
 use Rattle.crush_map.specs.Sound.{IsEachOnce}
 use Rattle.crush_map.proofs.Apart.{distinct_push}
@@ -93,10 +93,10 @@ rule_names_once m is = names_once (map (λ r. r.name) m.rules) (rw (rule_names_b
 -- ---- buckets
 
 -- keys of declared buckets differ, if each new key is none of the earlier ones
-keys_apart : {K : Type 0} (e : K → K → Bool) (keys : Known → List K) (key : Bucket → K) →
-    ((k : Known) (b : Bucket) → bucket_fault k b ≡ None → keys (with_bucket k b) ≡ keys k ++ key b ∷ []) →
-    ((k : Known) (b : Bucket) → bucket_fault k b ≡ None → list_any (λ x. e x (key b)) (keys k) ≡ false) →
-    (n : ℕ) (k : Known) (bs : List Bucket) → IsDistinct e (keys k) → first_in Buckets bucket_fault with_bucket n k bs ≡ None → IsDistinct e (keys k ++ map key bs)
+keys_apart : {K : Type 0} (e : K → K → Bool) (keys : SymbolTable → List K) (key : Bucket → K) →
+    ((k : SymbolTable) (b : Bucket) → bucket_fault k b ≡ None → keys (with_bucket k b) ≡ keys k ++ key b ∷ []) →
+    ((k : SymbolTable) (b : Bucket) → bucket_fault k b ≡ None → list_any (λ x. e x (key b)) (keys k) ≡ false) →
+    (n : ℕ) (k : SymbolTable) (bs : List Bucket) → IsDistinct e (keys k) → first_in Buckets bucket_fault with_bucket n k bs ≡ None → IsDistinct e (keys k ++ map key bs)
 unfolding first_in
 keys_apart e keys key more new n k [] apart h = rw (append-nil (keys k)) apart
 keys_apart e keys key more new n k (b ∷ bs) apart h =
@@ -118,15 +118,15 @@ id_new : (ids : Ids) (id : ℤ) → is_bucket_id id ≡ true → has_id ids id �
 id_new ids (pos n) is h = cc
 id_new ids (negsuc n) is h = h
 
-bucket_id : (k : Known) (b : Bucket) → bucket_fault k b ≡ None → is_bucket_id b.id.0 ≡ true
+bucket_id : (k : SymbolTable) (b : Bucket) → bucket_fault k b ≡ None → is_bucket_id b.id.0 ≡ true
 unfolding bucket_fault
 bucket_id k b h = is_so _ (fails M12 _ (passes (bucket_checks k b) 1 (M12 when not (is_bucket_id b.id.0)) refl h))
 
-bucket_new : (k : Known) (b : Bucket) → bucket_fault k b ≡ None → has_id k.items b.id.0 ≡ false
+bucket_new : (k : SymbolTable) (b : Bucket) → bucket_fault k b ≡ None → has_id k.items b.id.0 ≡ false
 unfolding bucket_fault
 bucket_new k b h = fails M2 _ (passes (bucket_checks k b) 2 (M2 when has_id k.items b.id.0) refl h)
 
-bucket_name_new : (k : Known) (b : Bucket) → bucket_fault k b ≡ None → has_name k.item_names b.name ≡ false
+bucket_name_new : (k : SymbolTable) (b : Bucket) → bucket_fault k b ≡ None → has_name k.item_names b.name ≡ false
 unfolding bucket_fault
 bucket_name_new k b h = fails M3 _ (passes (bucket_checks k b) 4 (M3 when has_name k.item_names b.name) refl h)
 

@@ -10,33 +10,33 @@ use Rattle.std.proofs.lemmas.List.Sorted.{IsPermutation-map, IsPermutation-appen
 use Rattle.std.proofs.lemmas.Map.Keys.{IsDistinct-IsPermutation}
 use Rattle.crush_map.specs.declared.fault.FaultCode.{FaultCode}
 use Rattle.crush_map.specs.declared.fault.Element.{Element}
-use Rattle.crush_map.specs.Faults.{Known, has_number, has_name, at_place, first_in}
+use Rattle.crush_map.specs.Faults.{SymbolTable, has_number, has_name, at_place, first_in}
 use Rattle.crush_map.proofs.Apart.{distinct_push, new_at}
 use Rattle.crush_map.proofs.Passing.{first_none, second_none}
 
 -- an element without a fault: there is room, it is right by itself, and its number and name are new
-pub record Passes {X : Type 0} (Own : Known → X → Type 0) (limit : ℕ) (number : X → ℕ) (name : X → List ℕ) (numbers : List ℕ) (names : List (List ℕ)) (known : Known) (x : X) : Type 0 where
+pub record Passes {X : Type 0} (Own : SymbolTable → X → Type 0) (limit : ℕ) (number : X → ℕ) (name : X → List ℕ) (numbers : List ℕ) (names : List (List ℕ)) (known : SymbolTable) (x : X) : Type 0 where
   pub room : length numbers < limit
   pub own : Own known x
   pub new_number : has_number numbers (number x) ≡ false
   pub new_name : has_name names (name x) ≡ false
 
 -- a kind of elements that have a number and a name
-pub record Kind {X : Type 0} (check : Known → X → Option FaultCode) (with : Known → X → Known) (Own : Known → X → Type 0) : Type 0 where
+pub record Kind {X : Type 0} (check : SymbolTable → X → Option FaultCode) (with : SymbolTable → X → SymbolTable) (Own : SymbolTable → X → Type 0) : Type 0 where
   pub limit : ℕ
   pub number : X → ℕ
   pub name : X → List ℕ
-  pub numbers : Known → List ℕ
-  pub names : Known → List (List ℕ)
-  pub numbers_with : (k : Known) (x : X) → numbers (with k x) ≡ numbers k ++ number x ∷ []
-  pub names_with : (k : Known) (x : X) → names (with k x) ≡ names k ++ name x ∷ []
-  pub own_with : (k : Known) (x y : X) → Own k y → Own (with k x) y
-  pub own_before : (k : Known) (x y : X) → Own (with k x) y → Own k y
-  pub splits : (k : Known) (x : X) → check k x ≡ None → Passes Own limit number name (numbers k) (names k) k x
-  pub joins : (k : Known) (x : X) → Passes Own limit number name (numbers k) (names k) k x → check k x ≡ None
+  pub numbers : SymbolTable → List ℕ
+  pub names : SymbolTable → List (List ℕ)
+  pub numbers_with : (k : SymbolTable) (x : X) → numbers (with k x) ≡ numbers k ++ number x ∷ []
+  pub names_with : (k : SymbolTable) (x : X) → names (with k x) ≡ names k ++ name x ∷ []
+  pub own_with : (k : SymbolTable) (x y : X) → Own k y → Own (with k x) y
+  pub own_before : (k : SymbolTable) (x y : X) → Own (with k x) y → Own k y
+  pub splits : (k : SymbolTable) (x : X) → check k x ≡ None → Passes Own limit number name (numbers k) (names k) k x
+  pub joins : (k : SymbolTable) (x : X) → Passes Own limit number name (numbers k) (names k) k x → check k x ≡ None
 
 -- what holds for a list without a fault, of elements with a number and a name
-pub record Good {X : Type 0} (Own : Known → X → Type 0) (limit : ℕ) (number : X → ℕ) (name : X → List ℕ) (numbers : List ℕ) (names : List (List ℕ)) (known : Known) (xs : List X) : Type 0 where
+pub record Good {X : Type 0} (Own : SymbolTable → X → Type 0) (limit : ℕ) (number : X → ℕ) (name : X → List ℕ) (numbers : List ℕ) (names : List (List ℕ)) (known : SymbolTable) (xs : List X) : Type 0 where
   pub room : (i : ℕ) → i < length xs → length numbers + i < limit
   pub own : AllByRecursion (Own known) xs
   pub distinct_numbers : IsDistinct nat_eq (numbers ++ map number xs)
@@ -54,7 +54,7 @@ mapped : {X : Type 0} (P Q : X → Type 0) (xs : List X) → ((x : X) → P x �
 mapped P Q [] f h = tt
 mapped P Q (x ∷ xs) f h = (f x h.0, mapped P Q xs f h.1)
 
-pub good : {X : Type 0} (check : Known → X → Option FaultCode) (with : Known → X → Known) (Own : Known → X → Type 0) (kind : Kind check with Own) (element : Element) (n : ℕ) (k : Known) (xs : List X) →
+pub good : {X : Type 0} (check : SymbolTable → X → Option FaultCode) (with : SymbolTable → X → SymbolTable) (Own : SymbolTable → X → Type 0) (kind : Kind check with Own) (element : Element) (n : ℕ) (k : SymbolTable) (xs : List X) →
     IsDistinct nat_eq (kind.numbers k) → IsDistinct bytes_eq (kind.names k) → first_in element check with n k xs ≡ None →
     Good Own kind.limit kind.number kind.name (kind.numbers k) (kind.names k) k xs
 unfolding first_in
@@ -77,7 +77,7 @@ good check with Own kind element n k (x ∷ xs) ns ms h =
       distinct_names = rw (append_assoc (kind.names k) (kind.name x ∷ []) (map kind.name xs)) at (rw (kind.names_with k x) at g.distinct_names);
     }
 
-pub from_good : {X : Type 0} (check : Known → X → Option FaultCode) (with : Known → X → Known) (Own : Known → X → Type 0) (kind : Kind check with Own) (element : Element) (n : ℕ) (k : Known) (xs : List X) →
+pub from_good : {X : Type 0} (check : SymbolTable → X → Option FaultCode) (with : SymbolTable → X → SymbolTable) (Own : SymbolTable → X → Type 0) (kind : Kind check with Own) (element : Element) (n : ℕ) (k : SymbolTable) (xs : List X) →
     Good Own kind.limit kind.number kind.name (kind.numbers k) (kind.names k) k xs → first_in element check with n k xs ≡ None
 unfolding first_in
 from_good check with Own kind element n k [] g = refl
@@ -98,7 +98,7 @@ from_good check with Own kind element n k (x ∷ xs) g =
     }))
 
 -- another order of a list without a fault has none
-pub reordered : {X : Type 0} (check : Known → X → Option FaultCode) (with : Known → X → Known) (Own : Known → X → Type 0) (kind : Kind check with Own) (element : Element) (k : Known) (xs ys : List X) →
+pub reordered : {X : Type 0} (check : SymbolTable → X → Option FaultCode) (with : SymbolTable → X → SymbolTable) (Own : SymbolTable → X → Type 0) (kind : Kind check with Own) (element : Element) (k : SymbolTable) (xs ys : List X) →
     IsPermutation xs ys → IsDistinct nat_eq (kind.numbers k) → IsDistinct bytes_eq (kind.names k) → first_in element check with 0 k xs ≡ None →
     first_in element check with 0 k ys ≡ None
 reordered check with Own kind element k xs ys p ns ms h =

@@ -16,7 +16,7 @@ use Rattle.crush_types.specs.declared.ItemId.{ItemId}
 use Rattle.crush_types.specs.declared.Weight.{Weight}
 use Rattle.crush_types.specs.declared.Kind.{Kind}
 use Rattle.crush_map.specs.declared.limits.TheConstants.{BUCKET_LIMIT, ITEM_LIMIT, TOTAL_WEIGHT_LIMIT, RULE_LIMIT, STEP_LIMIT, NUMBER_LIMIT, RULE_ID_LIMIT, TRIES_LIMIT, VARY_R_LIMIT}
-use Rattle.crush_map.specs.Faults.{Known, Ids, no_ids, nothing, ◌when◌, has_number, has_id, with_id, items_fault, contents_fault, bucket_checks, bucket_fault, with_bucket, with_device, with_type, known_types, known_devices, is_bucket_id, is_heavy, is_too_heavy, choose_fault, step_fault, steps_fault, rule_fault, with_rule, known_buckets, known_rules, is_count, are_in_range, end_fault, end_checks, type_fault, device_fault, is_name, is_reserved}
+use Rattle.crush_map.specs.Faults.{SymbolTable, Ids, no_ids, nothing, ◌when◌, has_number, has_id, with_id, items_fault, contents_fault, bucket_checks, bucket_fault, with_bucket, with_device, with_type, known_types, known_devices, is_bucket_id, is_heavy, is_too_heavy, choose_fault, step_fault, steps_fault, rule_fault, with_rule, known_buckets, known_rules, is_count, are_in_range, end_fault, end_checks, type_fault, device_fault, is_name, is_reserved}
 use Rattle.crush_types.specs.Kinds.{is_straw2, is_uniform}
 use Rattle.crush_types.specs.Weights.{has_equal_weights, total_weight}
 use Rattle.crush_map.specs.Map.{Map, draft_of, IsMap}
@@ -61,12 +61,12 @@ id_push ids (negsuc m) (negsuc n) = number_push ids.buckets m n ∙ or_none (has
 
 -- ---- items
 
-record ItemPasses (known : Known) (before : Ids) (earlier : List (ItemId × Weight)) (id : ℤ) : Type 0 where
+record ItemPasses (known : SymbolTable) (before : Ids) (earlier : List (ItemId × Weight)) (id : ℤ) : Type 0 where
   pub declared : has_id known.items id ≡ true
   pub new : has_id before id ≡ false
   pub once : list_any (λ item. same_id item.0.0 id) earlier ≡ false
 
-behind_one : (known : Known) (before : Ids) (x : ItemId × Weight) (xs : List (ItemId × Weight)) (o : Option (ItemId × Weight)) →
+behind_one : (known : SymbolTable) (before : Ids) (x : ItemId × Weight) (xs : List (ItemId × Weight)) (o : Option (ItemId × Weight)) →
     IfSome o (λ item. ItemPasses known (with_id before x.0.0) xs item.0.0) → IfSome o (λ item. ItemPasses known before (x ∷ xs) item.0.0)
 behind_one known before x xs None h = tt
 behind_one known before x xs (Some item) h =
@@ -77,7 +77,7 @@ behind_one known before x xs (Some item) h =
       once = rw (right_false (has_id before item.0.0) _ new) h.once;
     }
 
-items_pass : (known : Known) (before : Ids) (items : List (ItemId × Weight)) → items_fault known before items ≡ None →
+items_pass : (known : SymbolTable) (before : Ids) (items : List (ItemId × Weight)) → items_fault known before items ≡ None →
     (j : ℕ) → IfSome (slice_get items j) (λ item. ItemPasses known before (take j items) item.0.0)
 unfolding items_fault
 items_pass known before [] h j = tt
@@ -95,7 +95,7 @@ items_pass known before (x ∷ xs) h (suc j) =
 
 -- ---- what is declared after buckets
 
-types_stay : (k : Known) (xs : List Bucket) → (fold with_bucket k xs).types ≡ k.types
+types_stay : (k : SymbolTable) (xs : List Bucket) → (fold with_bucket k xs).types ≡ k.types
 types_stay k [] = refl
 types_stay k (x ∷ xs) = types_stay (with_bucket k x) xs
 
@@ -107,7 +107,7 @@ fewer : (x : Bucket) (xs : List Bucket) → AllBuckets (x ∷ xs) → AllBuckets
 unfolding AllBuckets
 fewer x xs h j = h (suc j)
 
-bucket_numbers : (k : Known) (xs : List Bucket) (n : ℕ) → has_number (fold with_bucket k xs).items.buckets n ≡ (has_number k.items.buckets n || has_bucket xs (negsuc n))
+bucket_numbers : (k : SymbolTable) (xs : List Bucket) (n : ℕ) → has_number (fold with_bucket k xs).items.buckets n ≡ (has_number k.items.buckets n || has_bucket xs (negsuc n))
 bucket_numbers k [] n = sym (or_false (has_number k.items.buckets n))
 bucket_numbers k (x ∷ xs) n =
     bucket_numbers (with_bucket k x) xs n
@@ -118,7 +118,7 @@ one_bucket : (ids : Ids) (id : ℤ) → is_bucket_id id ≡ true → (with_id id
 one_bucket ids (pos n) h = cc
 one_bucket ids (negsuc n) h = refl
 
-devices_stay : (k : Known) (xs : List Bucket) → AllBuckets xs → (fold with_bucket k xs).items.devices ≡ k.items.devices
+devices_stay : (k : SymbolTable) (xs : List Bucket) → AllBuckets xs → (fold with_bucket k xs).items.devices ≡ k.items.devices
 unfolding AllBuckets
 devices_stay k [] h = refl
 devices_stay k (x ∷ xs) h = devices_stay (with_bucket k x) xs (λ j. h (suc j)) ∙ one_bucket k.items x.id.0 (h 0)
@@ -127,7 +127,7 @@ one_more : (ids : Ids) (id : ℤ) → is_bucket_id id ≡ true → length (with_
 one_more ids (pos n) h = cc
 one_more ids (negsuc n) h = length-append ids.buckets (n ∷ [])
 
-bucket_count : (k : Known) (xs : List Bucket) → AllBuckets xs → length (fold with_bucket k xs).items.buckets ≡ length k.items.buckets + length xs
+bucket_count : (k : SymbolTable) (xs : List Bucket) → AllBuckets xs → length (fold with_bucket k xs).items.buckets ≡ length k.items.buckets + length xs
 unfolding AllBuckets
 bucket_count k [] h = omega arith
 bucket_count k (x ∷ xs) h =
@@ -147,7 +147,7 @@ pub no_buckets : (m : Map) → (known_devices (draft_of m)).items.buckets ≡ []
 no_buckets m = rw (devices_behind (known_types (draft_of m)) m.devices, types_behind nothing m.types) refl
 
 -- what is declared after a map's first buckets
-abbrev known_at : Map → List Bucket → Known
+abbrev known_at : Map → List Bucket → SymbolTable
 known_at m before = fold with_bucket (known_devices (draft_of m)) before
 
 item_at : (m : Map) (before : List Bucket) → AllBuckets before → (id : ℤ) → has_id (known_at m before).items id ≡ has_item m.devices before id
@@ -180,15 +180,15 @@ item_is : (m : Map) (i j : ℕ) (items : List (ItemId × Weight)) → AllBuckets
 item_is m i j items all None h = tt
 item_is m i j items all (Some item) h = record { declared = sym (item_at m (take i m.buckets) all item.0.0) ∙ h.declared; once = h.once }
 
-abbrev contents_checks : Known → Kind → List (ItemId × Weight) → List (Option FaultCode)
+abbrev contents_checks : SymbolTable → Kind → List (ItemId × Weight) → List (Option FaultCode)
 contents_checks known alg items = items_fault known no_ids items ∷ (M8 when (is_uniform alg && not (has_equal_weights items))) ∷ (M7 when is_too_heavy alg items) ∷ []
 
-record Contents (known : Known) (b : Bucket) : Type 0 where
+record Contents (known : SymbolTable) (b : Bucket) : Type 0 where
   pub items : items_fault known no_ids b.items ≡ None
   pub even : (is_uniform b.alg && not (has_equal_weights b.items)) ≡ false
   pub light : is_too_heavy b.alg b.items ≡ false
 
-contents : (known : Known) (b : Bucket) → contents_fault known b.alg b.items ≡ None → Contents known b
+contents : (known : SymbolTable) (b : Bucket) → contents_fault known b.alg b.items ≡ None → Contents known b
 unfolding contents_fault
 contents known b h = record {
   items = passes (contents_checks known b.alg b.items) 0 (items_fault known no_ids b.items) refl h;
@@ -199,7 +199,7 @@ contents known b h = record {
 bucket_passes : (m : Map) (i : ℕ) (b : Bucket) → length (take i m.buckets) ≡ i → AllBuckets (take i m.buckets) → bucket_fault (known_at m (take i m.buckets)) b ≡ None → IsBucketAt m i b
 unfolding bucket_fault
 bucket_passes m i b len all h =
-    let k : Known = known_at m (take i m.buckets) in
+    let k : SymbolTable = known_at m (take i m.buckets) in
     let count : length k.items.buckets ≡ length (known_devices (draft_of m)).items.buckets + length (take i m.buckets) = bucket_count (known_devices (draft_of m)) (take i m.buckets) all in
     let none : length (known_devices (draft_of m)).items.buckets ≡ 0 = ap length (no_buckets m) in
     let room : length k.items.buckets < BUCKET_LIMIT = above BUCKET_LIMIT (length k.items.buckets) (fails M1 _ (passes (bucket_checks k b) 0 (M1 when nat_le BUCKET_LIMIT (length k.items.buckets)) refl h)) in
@@ -221,15 +221,15 @@ bucket_passes m i b len all h =
 
 -- ---- all buckets of a map
 
-id_of : (known : Known) (b : Bucket) → bucket_fault known b ≡ None → is_bucket_id b.id.0 ≡ true
+id_of : (known : SymbolTable) (b : Bucket) → bucket_fault known b ≡ None → is_bucket_id b.id.0 ≡ true
 unfolding bucket_fault
 id_of known b h = is_so _ (fails M12 _ (passes (bucket_checks known b) 1 (M12 when not (is_bucket_id b.id.0)) refl h))
 
-id_if : (known : Known) (o : Option Bucket) → IfSome o (λ b. bucket_fault known b ≡ None) → IfSome o (λ b. is_bucket_id b.id.0 ≡ true)
+id_if : (known : SymbolTable) (o : Option Bucket) → IfSome o (λ b. bucket_fault known b ≡ None) → IfSome o (λ b. is_bucket_id b.id.0 ≡ true)
 id_if known None h = tt
 id_if known (Some b) h = id_of known b h
 
-all_buckets : (known : Known) (xs : List Bucket) → Pass bucket_fault with_bucket known xs → AllBuckets xs
+all_buckets : (known : SymbolTable) (xs : List Bucket) → Pass bucket_fault with_bucket known xs → AllBuckets xs
 unfolding AllBuckets
 all_buckets known xs h = λ j. id_if (fold with_bucket known (take j xs)) (slice_get xs j) (h j)
 
@@ -274,10 +274,10 @@ chooseleaf true true z h l f = cc
 chooseleaf true false z h l f = h
 chooseleaf false firstn z h l f = cc
 
-abbrev choose_checks : Known → Bool → Bool → ℤ → ℕ → List (Option FaultCode)
+abbrev choose_checks : SymbolTable → Bool → Bool → ℤ → ℕ → List (Option FaultCode)
 choose_checks known firstn leaf n wanted = (M11 when not (has_number known.types wanted)) ∷ (M12 when not (is_count n)) ∷ (M14 when (leaf && not firstn && (wanted == 0))) ∷ []
 
-step_passes : (m : Map) (k : Known) → ((id : ℤ) → has_id k.items id ≡ has_item m.devices m.buckets id) → ((n : ℕ) → has_number k.types n ≡ has_type m.types n) →
+step_passes : (m : Map) (k : SymbolTable) → ((id : ℤ) → has_id k.items id ≡ has_item m.devices m.buckets id) → ((n : ℕ) → has_number k.types n ≡ has_type m.types n) →
     (s : Step) → step_fault k s ≡ None → IsStep m s
 unfolding step_fault choose_fault
 step_passes m k ids types (Take id) h = sym (ids id.0) ∙ is_so (has_id k.items id.0) (fails M10 (not (has_id k.items id.0)) h)
@@ -292,14 +292,14 @@ step_passes m k ids types (Choose firstn leaf n wanted) h = record {
 }
 step_passes m k ids types Emit h = tt
 
-steps_pass : (m : Map) (k : Known) → ((id : ℤ) → has_id k.items id ≡ has_item m.devices m.buckets id) → ((n : ℕ) → has_number k.types n ≡ has_type m.types n) →
+steps_pass : (m : Map) (k : SymbolTable) → ((id : ℤ) → has_id k.items id ≡ has_item m.devices m.buckets id) → ((n : ℕ) → has_number k.types n ≡ has_type m.types n) →
     (steps : List Step) → steps_fault k steps ≡ None → (j : ℕ) → IfSome (slice_get steps j) (IsStep m)
 steps_pass m k ids types [] h j = tt
 steps_pass m k ids types (s ∷ steps) h zero = step_passes m k ids types s (first_none (step_fault k s) _ h)
 steps_pass m k ids types (s ∷ steps) h (suc j) = steps_pass m k ids types steps (second_none (step_fault k s) _ h) j
 
 -- what is declared after a map's first rules
-abbrev rules_at : Map → List Rule → Known
+abbrev rules_at : Map → List Rule → SymbolTable
 rules_at m before = fold with_rule (known_buckets (draft_of m)) before
 
 rule_items : (m : Map) (before : List Rule) → AllBuckets m.buckets → (id : ℤ) → has_id (rules_at m before).items id ≡ has_item m.devices m.buckets id
@@ -318,7 +318,7 @@ positive (suc n) h = omega arith
 rule_passes : (m : Map) (i : ℕ) (r : Rule) → length (take i m.rules) ≡ i → AllBuckets m.buckets → rule_fault (rules_at m (take i m.rules)) r ≡ None → IsRuleAt m i r
 unfolding rule_fault
 rule_passes m i r len all h =
-    let k : Known = rules_at m (take i m.rules) in
+    let k : SymbolTable = rules_at m (take i m.rules) in
     let own : OwnRule k r = (rule_splits k r h).own in
     let room : length k.rules < RULE_LIMIT = (rule_splits k r h).room in
     let count : length k.rules ≡ length (take i m.rules) = rule_count m (take i m.rules) in
@@ -365,7 +365,7 @@ device_if : (m : Map) (i : ℕ) (o : Option Device) → slice_get m.devices i �
     IfSome o (λ d. device_fault (fold with_device (known_types (draft_of m)) (take i m.devices)) d ≡ None) → IfSome o (IsDeviceAt i)
 device_if m i None e h = tt
 device_if m i (Some d) e h =
-    let k : Known = fold with_device (known_types (draft_of m)) (take i m.devices) in
+    let k : SymbolTable = fold with_device (known_types (draft_of m)) (take i m.devices) in
     let p = device_splits k d h in
     let count : length k.items.devices ≡ length (take i m.devices) = rw (devices_behind (known_types (draft_of m)) (take i m.devices), ids_before (draft_of m)) (simp length-map) in
     let room = p.room in

@@ -12,7 +12,7 @@ use Rattle.crush_map.specs.declared.draft.Device.{Device}
 use Rattle.crush_map.specs.declared.draft.Bucket.{Bucket}
 use Rattle.crush_map.specs.declared.draft.Rule.{Rule}
 use Rattle.crush_map.specs.declared.draft.MapDraft.{MapDraft}
-use Rattle.crush_map.specs.Faults.{Known, nothing, first_in, type_fault, device_fault, bucket_fault, rule_fault, end_fault, with_type, with_device, with_bucket, with_rule, known_types, known_devices, known_buckets, known_rules, element_fault, first_fault, ◌when◌, has_number, are_in_range, end_checks}
+use Rattle.crush_map.specs.Faults.{SymbolTable, nothing, first_in, type_fault, device_fault, bucket_fault, rule_fault, end_fault, with_type, with_device, with_bucket, with_rule, known_types, known_devices, known_buckets, known_rules, element_fault, first_fault, ◌when◌, has_number, are_in_range, end_checks}
 use Rattle.crush_map.specs.declared.draft.Tunables.{Tunables}
 use Rattle.crush_map.specs.declared.fault.FaultCode.TheVariants.{M4, M12}
 use Rattle.crush_map.specs.Map.{Map, draft_of, IsMap, IsMapOf}
@@ -23,29 +23,29 @@ use Rattle.crush_map.proofs.Numbered.{OwnType, OwnDevice, OwnRule, type_kind, de
 
 -- ---- what is declared after whole lists
 
-pub types_behind : (k : Known) (xs : List TypeName) → fold with_type k xs ≡ record k { types = k.types ++ map (λ t. t.number) xs; type_names = k.type_names ++ map (λ t. t.name) xs }
+pub types_behind : (k : SymbolTable) (xs : List TypeName) → fold with_type k xs ≡ record k { types = k.types ++ map (λ t. t.number) xs; type_names = k.type_names ++ map (λ t. t.name) xs }
 types_behind k [] = rw (append-nil k.types, append-nil k.type_names) refl
 types_behind k (x ∷ xs) = types_behind (with_type k x) xs ∙ rw (append_assoc k.types (x.number ∷ []) (map (λ t. t.number) xs), append_assoc k.type_names (x.name ∷ []) (map (λ t. t.name) xs)) refl
 
-abbrev pub with_devices : Known → List Device → Known
+abbrev pub with_devices : SymbolTable → List Device → SymbolTable
 with_devices k xs = record k { items = record { devices = k.items.devices ++ map (λ d. d.id) xs; buckets = k.items.buckets }; item_names = k.item_names ++ map (λ d. d.name) xs }
 
-pub devices_behind : (k : Known) (xs : List Device) → fold with_device k xs ≡ with_devices k xs
+pub devices_behind : (k : SymbolTable) (xs : List Device) → fold with_device k xs ≡ with_devices k xs
 devices_behind k [] = rw (append-nil k.items.devices, append-nil k.item_names) refl
 devices_behind k (x ∷ xs) = devices_behind (with_device k x) xs ∙ rw (append_assoc k.items.devices (x.id ∷ []) (map (λ d. d.id) xs), append_assoc k.item_names (x.name ∷ []) (map (λ d. d.name) xs)) refl
 
-abbrev pub with_rules : Known → List Rule → Known
+abbrev pub with_rules : SymbolTable → List Rule → SymbolTable
 with_rules k xs = record k { rules = k.rules ++ map (λ r. r.id) xs; rule_names = k.rule_names ++ map (λ r. r.name) xs }
 
-pub rules_behind : (k : Known) (xs : List Rule) → fold with_rule k xs ≡ with_rules k xs
+pub rules_behind : (k : SymbolTable) (xs : List Rule) → fold with_rule k xs ≡ with_rules k xs
 rules_behind k [] = rw (append-nil k.rules, append-nil k.rule_names) refl
 rules_behind k (x ∷ xs) = rules_behind (with_rule k x) xs ∙ rw (append_assoc k.rules (x.id ∷ []) (map (λ r. r.id) xs), append_assoc k.rule_names (x.name ∷ []) (map (λ r. r.name) xs)) refl
 
-rules_behind_buckets : (k : Known) (xs : List Bucket) → (fold with_bucket k xs).rules ≡ k.rules
+rules_behind_buckets : (k : SymbolTable) (xs : List Bucket) → (fold with_bucket k xs).rules ≡ k.rules
 rules_behind_buckets k [] = refl
 rules_behind_buckets k (x ∷ xs) = rules_behind_buckets (with_bucket k x) xs
 
-names_behind_buckets : (k : Known) (xs : List Bucket) → (fold with_bucket k xs).rule_names ≡ k.rule_names
+names_behind_buckets : (k : SymbolTable) (xs : List Bucket) → (fold with_bucket k xs).rule_names ≡ k.rule_names
 names_behind_buckets k [] = refl
 names_behind_buckets k (x ∷ xs) = names_behind_buckets (with_bucket k x) xs
 
@@ -54,7 +54,7 @@ names_behind_buckets k (x ∷ xs) = names_behind_buckets (with_bucket k x) xs
 joined : {X Y : Type 0} (zs : List Y) (f : X → Y) (xs ys : List X) → IsPermutation xs ys → IsPermutation (zs ++ map f xs) (zs ++ map f ys)
 joined zs f xs ys p = IsPermutation-append_right zs (map f xs) (map f ys) (IsPermutation-map f xs ys p)
 
-types_reordered : (k : Known) (xs ys : List TypeName) → IsPermutation xs ys → Alike (fold with_type k xs) (fold with_type k ys)
+types_reordered : (k : SymbolTable) (xs ys : List TypeName) → IsPermutation xs ys → Alike (fold with_type k xs) (fold with_type k ys)
 types_reordered k xs ys p = rw (types_behind k xs, types_behind k ys) (let r = alike_refl k in record {
   types = joined k.types (λ t. t.number) xs ys p;
   type_names = joined k.type_names (λ t. t.name) xs ys p;
@@ -64,7 +64,7 @@ types_reordered k xs ys p = rw (types_behind k xs, types_behind k ys) (let r = a
   rule_names = r.rule_names;
 })
 
-devices_reordered : (k : Known) (xs ys : List Device) → IsPermutation xs ys → Alike (fold with_device k xs) (fold with_device k ys)
+devices_reordered : (k : SymbolTable) (xs ys : List Device) → IsPermutation xs ys → Alike (fold with_device k xs) (fold with_device k ys)
 devices_reordered k xs ys p = rw (devices_behind k xs, devices_behind k ys) (let r = alike_refl k in record {
   items = record { devices = joined k.items.devices (λ d. d.id) xs ys p; buckets = IsPermutation-refl k.items.buckets };
   item_names = joined k.item_names (λ d. d.name) xs ys p;
@@ -74,7 +74,7 @@ devices_reordered k xs ys p = rw (devices_behind k xs, devices_behind k ys) (let
   rule_names = r.rule_names;
 })
 
-rules_reordered : (k : Known) (xs ys : List Rule) → IsPermutation xs ys → Alike (fold with_rule k xs) (fold with_rule k ys)
+rules_reordered : (k : SymbolTable) (xs ys : List Rule) → IsPermutation xs ys → Alike (fold with_rule k xs) (fold with_rule k ys)
 rules_reordered k xs ys p = rw (rules_behind k xs, rules_behind k ys) (let r = alike_refl k in record {
   rules = joined k.rules (λ r. r.id) xs ys p;
   rule_names = joined k.rule_names (λ r. r.name) xs ys p;
@@ -84,7 +84,7 @@ rules_reordered k xs ys p = rw (rules_behind k xs, rules_behind k ys) (let r = a
   item_names = r.item_names;
 })
 
-alike_trans : (j k l : Known) → Alike j k → Alike k l → Alike j l
+alike_trans : (j k l : SymbolTable) → Alike j k → Alike k l → Alike j l
 alike_trans j k l a b = record {
   types = IsPermutation-trans j.types k.types l.types a.types b.types;
   type_names = IsPermutation-trans j.type_names k.type_names l.type_names a.type_names b.type_names;
@@ -176,7 +176,7 @@ behind d m is =
     }
 
 -- local tries of 0 aren't a fault
-end_without : (k : Known) (t : Tunables) (m n : ℕ) → end_fault k t m n ≡ None → end_fault k t 0 0 ≡ None
+end_without : (k : SymbolTable) (t : Tunables) (m n : ℕ) → end_fault k t m n ≡ None → end_fault k t 0 0 ≡ None
 unfolding end_fault
 end_without k t m n h =
     rw (

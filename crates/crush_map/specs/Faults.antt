@@ -67,7 +67,7 @@ has_id ids (negsuc n) = has_number ids.buckets n
 
 -- what is declared so far: numbers of types, ids of items and of rules, and names; devices and
 -- buckets share one list of names
-pub record Known : Type 0 where
+pub record SymbolTable : Type 0 where
   pub types : List ℕ
   pub type_names : List (List ℕ)
   pub items : Ids
@@ -76,7 +76,7 @@ pub record Known : Type 0 where
   pub rule_names : List (List ℕ)
 
 -- before the first declaration
-abbrev pub nothing : Known
+abbrev pub nothing : SymbolTable
 nothing = record { types = []; type_names = []; items = no_ids; item_names = []; rules = []; rule_names = [] }
 
 -- whether a name is in the list
@@ -101,7 +101,7 @@ is_reserved name = list_any (λ word. bytes_eq word name) (codes "tunable" ∷ c
 
 -- of a type: there are TYPE_LIMIT already; its number is out of range, or declared already; its
 -- name isn't of the form, or is reserved, or declared already
-abbrev pub type_checks : Known → TypeName → List (Option FaultCode)
+abbrev pub type_checks : SymbolTable → TypeName → List (Option FaultCode)
 type_checks known t =
     (M1 when nat_le TYPE_LIMIT (length known.types))
     ∷ (M12 when nat_lt NUMBER_LIMIT t.number)
@@ -111,18 +111,18 @@ type_checks known t =
     ∷ []
 
 -- the fault of a type that is declared next
-unfoldable pub type_fault : Known → TypeName → Option FaultCode
+unfoldable pub type_fault : SymbolTable → TypeName → Option FaultCode
 type_fault known t = first_of (type_checks known t)
 
 -- adds a type
-abbrev pub with_type : Known → TypeName → Known
+abbrev pub with_type : SymbolTable → TypeName → SymbolTable
 with_type known t = record known { types = known.types ++ t.number ∷ []; type_names = known.type_names ++ t.name ∷ [] }
 
 -- ---- devices
 
 -- of a device: there are DEVICE_LIMIT already; its id is out of range, or declared already; its
 -- name isn't of the form, or is declared already
-abbrev pub device_checks : Known → Device → List (Option FaultCode)
+abbrev pub device_checks : SymbolTable → Device → List (Option FaultCode)
 device_checks known d =
     (M1 when nat_le DEVICE_LIMIT (length known.items.devices))
     ∷ (M12 when nat_lt NUMBER_LIMIT d.id)
@@ -132,11 +132,11 @@ device_checks known d =
     ∷ []
 
 -- the fault of a device that is declared next
-unfoldable pub device_fault : Known → Device → Option FaultCode
+unfoldable pub device_fault : SymbolTable → Device → Option FaultCode
 device_fault known d = first_of (device_checks known d)
 
 -- adds a device
-abbrev pub with_device : Known → Device → Known
+abbrev pub with_device : SymbolTable → Device → SymbolTable
 with_device known d = record known { items = with_id known.items (pos d.id); item_names = known.item_names ++ d.name ∷ [] }
 
 -- ---- buckets
@@ -148,7 +148,7 @@ is_bucket_id (negsuc n) = nat_le n NUMBER_LIMIT
 
 -- the first fault of a bucket's items from here on; `before` has the ids of the bucket's earlier
 -- items
-unfoldable pub items_fault : Known → Ids → List (ItemId × Weight) → Option FaultCode
+unfoldable pub items_fault : SymbolTable → Ids → List (ItemId × Weight) → Option FaultCode
 items_fault known before [] = None
 items_fault known before (item ∷ items) = first_of (
     (M5 when not (has_id known.items item.0.0))
@@ -166,7 +166,7 @@ abbrev pub is_too_heavy : Kind → List (ItemId × Weight) → Bool
 is_too_heavy alg items = nat_lt TOTAL_WEIGHT_LIMIT (total_weight items) || (is_straw2 alg && list_any is_heavy items)
 
 -- the first fault of the items and weights of a bucket of this kind
-unfoldable pub contents_fault : Known → Kind → List (ItemId × Weight) → Option FaultCode
+unfoldable pub contents_fault : SymbolTable → Kind → List (ItemId × Weight) → Option FaultCode
 contents_fault known alg items = first_of (
     items_fault known no_ids items
     ∷ (M8 when (is_uniform alg && not (has_equal_weights items)))
@@ -176,7 +176,7 @@ contents_fault known alg items = first_of (
 -- of a bucket: there are BUCKET_LIMIT already; its id is out of range, or declared already; its
 -- name isn't of the form, or is declared already; its type isn't declared, or is that of devices;
 -- it has more than ITEM_LIMIT items; its items and weights
-abbrev pub bucket_checks : Known → Bucket → List (Option FaultCode)
+abbrev pub bucket_checks : SymbolTable → Bucket → List (Option FaultCode)
 bucket_checks known b =
     (M1 when nat_le BUCKET_LIMIT (length known.items.buckets))
     ∷ (M12 when not (is_bucket_id b.id.0))
@@ -190,11 +190,11 @@ bucket_checks known b =
     ∷ []
 
 -- the fault of a bucket that is declared next
-unfoldable pub bucket_fault : Known → Bucket → Option FaultCode
+unfoldable pub bucket_fault : SymbolTable → Bucket → Option FaultCode
 bucket_fault known b = first_of (bucket_checks known b)
 
 -- adds a bucket
-abbrev pub with_bucket : Known → Bucket → Known
+abbrev pub with_bucket : SymbolTable → Bucket → SymbolTable
 with_bucket known b = record known { items = with_id known.items b.id.0; item_names = known.item_names ++ b.name ∷ [] }
 
 -- ---- rules
@@ -205,7 +205,7 @@ is_count n = int_le (neg_ℤ (pos COUNT_LIMIT)) n && int_le n (pos COUNT_LIMIT)
 
 -- of a choose step: its type isn't declared; its count is out of range; it is chooseleaf indep of
 -- type 0
-unfoldable pub choose_fault : Known → Bool → Bool → ℤ → ℕ → Option FaultCode
+unfoldable pub choose_fault : SymbolTable → Bool → Bool → ℤ → ℕ → Option FaultCode
 choose_fault known firstn leaf n wanted = first_of (
     (M11 when not (has_number known.types wanted))
     ∷ (M12 when not (is_count n))
@@ -213,7 +213,7 @@ choose_fault known firstn leaf n wanted = first_of (
     ∷ [])
 
 -- the fault of a step: an item that isn't declared, or a number out of range
-unfoldable pub step_fault : Known → Step → Option FaultCode
+unfoldable pub step_fault : SymbolTable → Step → Option FaultCode
 step_fault known (Take id) = M10 when not (has_id known.items id.0)
 step_fault known (SetChooseTries tries) = M12 when nat_lt TRIES_LIMIT tries
 step_fault known (SetLeafTries tries) = M12 when nat_lt TRIES_LIMIT tries
@@ -223,12 +223,12 @@ step_fault known (Choose firstn leaf n wanted) = choose_fault known firstn leaf 
 step_fault known Emit = None
 
 -- the first fault of steps
-abbrev pub steps_fault : Known → List Step → Option FaultCode
+abbrev pub steps_fault : SymbolTable → List Step → Option FaultCode
 steps_fault known steps = first_of (map (step_fault known) steps)
 
 -- of a rule apart from its steps: there are RULE_LIMIT already; its id is out of range, or declared
 -- already; its name isn't of the form, or is declared already; it has no step, or over STEP_LIMIT
-abbrev pub rule_head_checks : Known → Rule → List (Option FaultCode)
+abbrev pub rule_head_checks : SymbolTable → Rule → List (Option FaultCode)
 rule_head_checks known r =
     (M1 when nat_le RULE_LIMIT (length known.rules))
     ∷ (M12 when nat_lt RULE_ID_LIMIT r.id)
@@ -239,19 +239,19 @@ rule_head_checks known r =
     ∷ []
 
 -- the fault of a rule that is declared next, apart from the faults of its steps
-unfoldable pub rule_head_fault : Known → Rule → Option FaultCode
+unfoldable pub rule_head_fault : SymbolTable → Rule → Option FaultCode
 rule_head_fault known r = first_of (rule_head_checks known r)
 
 -- of a rule: the checks apart from its steps, and then its steps
-abbrev pub rule_checks : Known → Rule → List (Option FaultCode)
+abbrev pub rule_checks : SymbolTable → Rule → List (Option FaultCode)
 rule_checks known r = rule_head_checks known r ++ steps_fault known r.steps ∷ []
 
 -- the fault of a rule that is declared next
-unfoldable pub rule_fault : Known → Rule → Option FaultCode
+unfoldable pub rule_fault : SymbolTable → Rule → Option FaultCode
 rule_fault known r = first_of (rule_checks known r)
 
 -- adds a rule
-abbrev pub with_rule : Known → Rule → Known
+abbrev pub with_rule : SymbolTable → Rule → SymbolTable
 with_rule known r = record known { rules = known.rules ++ r.id ∷ []; rule_names = known.rule_names ++ r.name ∷ [] }
 
 -- ---- the end
@@ -262,7 +262,7 @@ are_in_range t = nat_le t.total_tries TOTAL_TRIES_LIMIT && nat_le t.descend_once
 
 -- at the end: there is no type 0; a tunable is out of range; local tries or local fallback tries
 -- are not 0
-abbrev pub end_checks : Known → Tunables → ℕ → ℕ → List (Option FaultCode)
+abbrev pub end_checks : SymbolTable → Tunables → ℕ → ℕ → List (Option FaultCode)
 end_checks known tunables local_tries local_fallback_tries =
     (M4 when not (has_number known.types 0))
     ∷ (M12 when not (are_in_range tunables))
@@ -270,7 +270,7 @@ end_checks known tunables local_tries local_fallback_tries =
     ∷ []
 
 -- the fault at the end, of the tunables, the local tries and the local fallback tries
-unfoldable pub end_fault : Known → Tunables → ℕ → ℕ → Option FaultCode
+unfoldable pub end_fault : SymbolTable → Tunables → ℕ → ℕ → Option FaultCode
 end_fault known tunables local_tries local_fallback_tries = first_of (end_checks known tunables local_tries local_fallback_tries)
 
 -- ---- a whole draft
@@ -286,22 +286,22 @@ at_place element place (Some code) = Some (at element place code)
 
 -- the first fault of a list whose first element has this place: each element is checked against
 -- what is declared before it, and then added
-unfoldable pub first_in : {X : Type 0} → Element → (Known → X → Option FaultCode) → (Known → X → Known) → ℕ → Known → List X → Option MapFault
+unfoldable pub first_in : {X : Type 0} → Element → (SymbolTable → X → Option FaultCode) → (SymbolTable → X → SymbolTable) → ℕ → SymbolTable → List X → Option MapFault
 first_in element check with place known [] = None
 first_in element check with place known (x ∷ xs) = or_else (at_place element place (check known x)) (first_in element check with (place + 1) (with known x) xs)
 
 -- what is declared after the types of a draft, after its devices too, after its buckets too, and
 -- after its rules too
-abbrev pub known_types : MapDraft → Known
+abbrev pub known_types : MapDraft → SymbolTable
 known_types d = fold with_type nothing d.types
 
-abbrev pub known_devices : MapDraft → Known
+abbrev pub known_devices : MapDraft → SymbolTable
 known_devices d = fold with_device (known_types d) d.devices
 
-abbrev pub known_buckets : MapDraft → Known
+abbrev pub known_buckets : MapDraft → SymbolTable
 known_buckets d = fold with_bucket (known_devices d) d.buckets
 
-abbrev pub known_rules : MapDraft → Known
+abbrev pub known_rules : MapDraft → SymbolTable
 known_rules d = fold with_rule (known_buckets d) d.rules
 
 -- the first fault of the elements of a draft: of its types, then of its devices, its buckets and

@@ -5,16 +5,16 @@ use Rattle.crush_map.specs.declared.fault.FaultCode.{FaultCode}
 use Rattle.crush_map.specs.declared.fault.Element.{Element}
 use Rattle.crush_map.specs.declared.fault.Element.TheVariants.{Types, Devices, Buckets, Rules, End}
 use Rattle.crush_map.specs.declared.draft.MapDraft.{MapDraft}
-use Rattle.crush_map.specs.Faults.{Known, nothing, type_fault, device_fault, bucket_fault, rule_fault, end_fault, with_type, with_device, with_bucket, with_rule, known_types, known_devices, known_buckets, known_rules}
+use Rattle.crush_map.specs.Faults.{SymbolTable, nothing, type_fault, device_fault, bucket_fault, rule_fault, end_fault, with_type, with_device, with_bucket, with_rule, known_types, known_devices, known_buckets, known_rules}
 use Rattle.crush_map.specs.Map.{Map}
 
 -- no element of a list has a fault, each checked against what is declared before it
-abbrev pub Pass : {X : Type 0} → (Known → X → Option FaultCode) → (Known → X → Known) → Known → List X → Type 0
+abbrev pub Pass : {X : Type 0} → (SymbolTable → X → Option FaultCode) → (SymbolTable → X → SymbolTable) → SymbolTable → List X → Type 0
 Pass check with known xs = (i : ℕ) → IfSome (slice_get xs i) (λ x. check (fold with known (take i xs)) x ≡ None)
 
 -- the element at this place has this fault, and no element before it has one, each checked against
 -- what is declared before it
-abbrev pub FailsFirst : {X : Type 0} → (Known → X → Option FaultCode) → (Known → X → Known) → Known → List X → ℕ → FaultCode → Type 0
+abbrev pub FailsFirst : {X : Type 0} → (SymbolTable → X → Option FaultCode) → (SymbolTable → X → SymbolTable) → SymbolTable → List X → ℕ → FaultCode → Type 0
 FailsFirst check with known xs i code =
     IsSomeAnd (slice_get xs i) (λ x. check (fold with known (take i xs)) x ≡ Some code)
     × ((j : ℕ) → j < i → IfSome (slice_get xs j) (λ x. check (fold with known (take j xs)) x ≡ None))

@@ -3,7 +3,7 @@
 //! Source: Ceph's CRUSH map manual. Each number has a type that can hold values out of its range,
 //! so that a draft can be refused for them. The limits are in `limits`.
 
-use crush_types::{ItemId, Kind, Listed, Text, Weight};
+use crush_types::{ItemId, Kind, Sequence, Text, Weight};
 
 /// A type of buckets; type 0 is that of devices.
 #[derive(Drop)]
@@ -22,7 +22,7 @@ pub struct Device {
 }
 
 /// Items and their weights, in order.
-pub type Items = Listed<(ItemId, Weight)>;
+pub type Items = Sequence<(ItemId, Weight)>;
 
 /// A bucket.
 #[derive(Drop)]
@@ -68,7 +68,7 @@ pub enum Step {
 }
 
 /// Steps, in order.
-pub type Steps = Listed<Step>;
+pub type Steps = Sequence<Step>;
 
 /// A rule.
 #[derive(Drop)]
@@ -97,10 +97,10 @@ pub struct Tunables {
 /// A map as it was declared, each list in order of declaration.
 #[derive(Drop)]
 pub struct MapDraft {
-    pub types: Listed<TypeName>,
-    pub devices: Listed<Device>,
-    pub buckets: Listed<Bucket>,
-    pub rules: Listed<Rule>,
+    pub types: Sequence<TypeName>,
+    pub devices: Sequence<Device>,
+    pub buckets: Sequence<Bucket>,
+    pub rules: Sequence<Rule>,
     /// `choose_local_tries`, 0 in a map.
     pub local_tries: u32,
     /// `choose_local_fallback_tries`, 0 in a map.

@@ -6,7 +6,7 @@ ghost use Rattle.crush_map.specs.declared.fault.Element.TheVariants.{Types, Devi
 
 use crate::draft::{Bucket, Device, MapDraft, Rule, TypeName};
 use crate::fault::{Element, FaultCode, MapFault};
-use crate::known::Known;
+use crate::known::SymbolTable;
 use std::alloc::{AllocError, Global};
 
 /// Returns the fault `code` at the place `index` of a list.
@@ -25,7 +25,7 @@ fn fault_at(element: Element, index: usize, code: FaultCode) -> MapFault
 #[tactic(auto, unfolding(crate::specs::Faults::first_in))]
 fn judge_types(
     alloc: Global,
-    known: &mut Known,
+    known: &mut SymbolTable,
     types: &[TypeName],
 ) -> Result<Option<MapFault>, AllocError>
     ensures fault { IfOk result (λ fault. fault ≡ spec.first_in Types spec.type_fault spec.with_type 0 known.old types.now) }
@@ -44,7 +44,7 @@ fn judge_types(
 #[tactic(auto, unfolding(crate::specs::Faults::first_in))]
 fn judge_devices(
     alloc: Global,
-    known: &mut Known,
+    known: &mut SymbolTable,
     devices: &[Device],
 ) -> Result<Option<MapFault>, AllocError>
     ensures fault { IfOk result (λ fault. fault ≡ spec.first_in Devices spec.device_fault spec.with_device 0 known.old devices.now) }
@@ -63,7 +63,7 @@ fn judge_devices(
 #[tactic(auto, unfolding(crate::specs::Faults::first_in))]
 fn judge_buckets(
     alloc: Global,
-    known: &mut Known,
+    known: &mut SymbolTable,
     buckets: &[Bucket],
 ) -> Result<Option<MapFault>, AllocError>
     ensures fault { IfOk result (λ fault. fault ≡ spec.first_in Buckets spec.bucket_fault spec.with_bucket 0 known.old buckets.now) }
@@ -82,7 +82,7 @@ fn judge_buckets(
 #[tactic(auto, unfolding(crate::specs::Faults::first_in))]
 fn judge_rules(
     alloc: Global,
-    known: &mut Known,
+    known: &mut SymbolTable,
     rules: &[Rule],
 ) -> Result<Option<MapFault>, AllocError>
     ensures fault { IfOk result (λ fault. fault ≡ spec.first_in Rules spec.rule_fault spec.with_rule 0 known.old rules.now) }
@@ -102,7 +102,7 @@ fn judge_rules(
 #[tactic(auto, unfolding(crate::specs::Faults::element_fault))]
 fn judge_elements(
     alloc: Global,
-    known: &mut Known,
+    known: &mut SymbolTable,
     draft: &MapDraft,
 ) -> Result<Option<MapFault>, AllocError>
     requires { known.old ≡ spec.nothing }
@@ -126,7 +126,7 @@ fn judge_elements(
 #[tactic(auto, unfolding(crate::specs::Faults::first_fault))]
 fn fault_of(
     alloc: Global,
-    known: &mut Known,
+    known: &mut SymbolTable,
     draft: &MapDraft,
 ) -> Result<Option<MapFault>, AllocError>
     requires { known.old ≡ spec.nothing }
@@ -151,6 +151,6 @@ fn fault_of(
 pub(crate) fn first_fault(alloc: Global, draft: &MapDraft) -> Result<Option<MapFault>, AllocError>
     ensures { IfOk result (λ fault. fault ≡ spec.first_fault draft.now) }
 {
-    let mut known = Known::new(alloc);
+    let mut known = SymbolTable::new(alloc);
     fault_of(alloc, &mut known, draft)
 }

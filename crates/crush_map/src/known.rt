@@ -22,7 +22,7 @@ use std::marker::Model;
 /// The numbers, ids and names declared so far. Contracts see them as lists, in order of
 /// declaration.
 #[derive(Drop)]
-pub struct Known {
+pub struct SymbolTable {
     types: Numbers,
     type_names: Names,
     items: Ids,
@@ -31,20 +31,20 @@ pub struct Known {
     rule_names: Names,
 }
 
-impl Model for Known {
+impl Model for SymbolTable {
     ghost use Rattle.crush_map.specs.Faults as spec;
 
-    ghost Value = { spec.Known };
+    ghost Value = { spec.SymbolTable };
 
     ghost view = { λ a. record { types = a.types; type_names = a.type_names; items = a.items; item_names = a.item_names; rules = a.rules; rule_names = a.rule_names } };
 }
 
-impl Known {
+impl SymbolTable {
     /// Returns what is known before anything is declared.
     pub fn new(alloc: Global) -> Self
         ensures { result ≡ spec.nothing }
     {
-        Known {
+        SymbolTable {
             types: Numbers::new(alloc),
             type_names: Names::new(alloc),
             items: Ids::new(alloc),

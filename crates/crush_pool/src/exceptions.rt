@@ -19,7 +19,7 @@ use crush_bucket::Tables;
 use crush_choose::limits::SIZE_LIMIT;
 use crush_choose::{Slot, Weights, has, slot_has};
 use crush_map::limits::NUMBER_LIMIT;
-use crush_map::{ByDevice, ItemId};
+use crush_map::{DeviceVec, ItemId};
 use std::alloc::{AllocError, Global};
 use std::hash::{FoldHasher, Hash, Hasher};
 use std::marker::Model;
@@ -77,14 +77,14 @@ fn reach_of(pairs: &[Pair]) -> usize
 /// Finds for each group the place of its first pair, and for each pair the place of the next one of
 /// its group. Where there is none, the number of pairs stands. `Err(AllocError)`: an allocation
 /// failed.
-fn places_of(alloc: Global, pairs: &[Pair]) -> Result<(ByDevice<u16>, Vec<u16>), AllocError>
+fn places_of(alloc: Global, pairs: &[Pair]) -> Result<(DeviceVec<u16>, Vec<u16>), AllocError>
     requires { spec.are_pairs GROUP_LIMIT pairs.now ≡ true }
     ensures first { IfOk result (λ places. HasFirst places.0 pairs.now) }
     ensures next { IfOk result (λ places. HasNext places.1.items pairs.now) }
     ensures each { IfOk result (λ places. length places.1.items ≡ length pairs.now) }
 {
     let none = pairs.len() as u16;
-    let mut first = ByDevice::new(alloc, none, reach_of(pairs))?;
+    let mut first = DeviceVec::new(alloc, none, reach_of(pairs))?;
     let mut next = vec![in alloc; none; pairs.len()]?;
     for place in (0..pairs.len()).rev() {
         let group = pairs[place].group;
@@ -101,7 +101,7 @@ pub struct Exceptions {
     pairs: Vec<Pair>,
     /// The place of each group's first pair, so that only the pairs of a group are looked at. A
     /// group has a number that a device can have.
-    first: ByDevice<u16>,
+    first: DeviceVec<u16>,
     /// For each pair the place of the next one of its group.
     next: Vec<u16>,
 }

@@ -18,7 +18,7 @@ use crate::states::DeviceStates;
 use crush_bucket::{Scratch, Tables};
 use crush_choose::laws::rules_of_a_map_can_run;
 use crush_choose::{Out, Slot, Weights, run_rule};
-use crush_map::{CrushMap, Listed, Rule};
+use crush_map::{CrushMap, Rule, Sequence};
 use std::alloc::{AllocError, Global};
 
 /// The placement of a group.
@@ -27,10 +27,10 @@ pub struct Placement {
     /// The input x with which the rule ran.
     pub seed: u32,
     /// What the rule answered.
-    pub raw: Listed<Slot>,
+    pub raw: Sequence<Slot>,
     /// Of `raw`, with the exceptions of the group, the devices that are up, in order. In an erasure
     /// pool each other entry is `None` here.
-    pub up: Listed<Slot>,
+    pub up: Sequence<Slot>,
     /// The first device of `up`; `None` where there is none.
     pub primary: Slot,
 }
@@ -180,8 +180,8 @@ impl<'a> Placing<'a> {
         let primary = primary_of(&up);
         Ok(Placement {
             seed: self.pool.seed_of(group),
-            raw: Listed::new(copy),
-            up: Listed::new(up),
+            raw: Sequence::new(copy),
+            up: Sequence::new(up),
             primary,
         })
     }

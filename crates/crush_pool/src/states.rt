@@ -4,7 +4,7 @@ ghost use Rattle.std.specs.Prelude.{◌≡◌, IfOk, ℕ};
 ghost use Rattle.crush_pool.specs.States as spec;
 ghost use Rattle.crush_pool.specs.Hashes.{fed_with, state_writes, states_hash};
 
-use crush_map::ByDevice;
+use crush_map::DeviceVec;
 use std::alloc::{AllocError, Global};
 use std::hash::{FoldHasher, Hash, Hasher};
 use std::marker::Model;
@@ -36,7 +36,7 @@ pub fn reweights_of(alloc: Global, states: &[DeviceState]) -> Result<Vec<(u32, u
 /// Which devices are up. Contracts see a flag for each id that a device can have, in order.
 #[derive(Drop)]
 pub struct DeviceStates {
-    by_device: ByDevice<bool>,
+    by_device: DeviceVec<bool>,
 }
 
 impl Model for DeviceStates {
@@ -59,7 +59,7 @@ impl DeviceStates {
         ensures all { IfOk result (λ s. s ≡ spec.flags_of states.now) }
         ensures each { IfOk result (λ s. (id : ℕ) → spec.up_at s id ≡ spec.is_up states.now id) }
     {
-        let mut by_device = ByDevice::new(alloc, true, 0)?;
+        let mut by_device = DeviceVec::new(alloc, true, 0)?;
         for place in (0..states.len()).rev() {
             let state = states[place];
             by_device.set(state.device, state.up)?;

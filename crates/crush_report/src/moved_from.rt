@@ -15,7 +15,7 @@ use crate::up_lists::{UpLists, WORDS_KEPT};
 use crate::{MoveRow, UpRun, move_between};
 use crush_choose::Slot;
 use crush_choose::limits::SIZE_LIMIT;
-use crush_map::Listed;
+use crush_map::Sequence;
 use crush_pool::Placer;
 use std::alloc::{AllocError, Global};
 
@@ -28,7 +28,7 @@ fn moved_rows(
     run: &mut UpRun,
     new: &mut Vec<Slot>,
     count: u32,
-) -> Result<Listed<MoveRow>, AllocError>
+) -> Result<Sequence<MoveRow>, AllocError>
     ensures { IfOk result (λ rows. rows ≡ spec.move_rows (list_at old.now) (up_on run.old) (range_with_len 0 count)) }
 {
     let mut rows = Vec::new(alloc);
@@ -39,13 +39,17 @@ fn moved_rows(
             rows.push(row)?;
         }
     }
-    Ok(Listed::new(rows))
+    Ok(Sequence::new(rows))
 }
 
 /// Finds the groups whose up lists differ between the map of which lists are kept and another, in
 /// order. A group of which no list is kept had an empty one. `Err(AllocError)`: an allocation
 /// failed.
-pub fn moves_from(alloc: Global, old: &UpLists, to: &Placer) -> Result<Listed<MoveRow>, AllocError>
+pub fn moves_from(
+    alloc: Global,
+    old: &UpLists,
+    to: &Placer,
+) -> Result<Sequence<MoveRow>, AllocError>
     ensures rows { IfOk result (λ rows. (p : PoolOnMap) → AreUpListsOn p old.now → p.states ≡ to.now.states → p.pool ≡ to.now.pool → p.pairs ≡ to.now.pairs
         → Some rows ≡ moves p.map to.now.map p.states p.pool p.pairs) }
     ensures gained { IfOk result (λ rows. spec.gained_in rows ≤ SIZE_LIMIT * GROUP_LIMIT) }

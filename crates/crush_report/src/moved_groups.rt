@@ -12,7 +12,7 @@ use crate::rows::MoveRow;
 use crate::up_runs::UpRun;
 use crush_choose::limits::SIZE_LIMIT;
 use crush_choose::{Slot, has, slot_has};
-use crush_map::Listed;
+use crush_map::Sequence;
 use crush_pool::Placer;
 use std::alloc::{AllocError, Global};
 
@@ -72,12 +72,12 @@ fn gained(old: &[Slot], new: &[Slot]) -> usize
 }
 
 /// Copies slots. `Err(AllocError)`: an allocation failed.
-fn copy_of(alloc: Global, slots: &[Slot]) -> Result<Listed<Slot>, AllocError>
+fn copy_of(alloc: Global, slots: &[Slot]) -> Result<Sequence<Slot>, AllocError>
     ensures { IfOk result (λ copy. copy ≡ slots.now) }
 {
     let mut copy = Vec::with_capacity(alloc, slots.len())?;
     copy.extend_from_slice(slots)?;
-    Ok(Listed::new(copy))
+    Ok(Sequence::new(copy))
 }
 
 /// Makes the row of a group. `None` where its up lists are the same, which takes no memory.
@@ -126,7 +126,7 @@ fn moved_rows(
     from: &mut UpRun,
     to: &mut UpRun,
     count: u32,
-) -> Result<Listed<MoveRow>, AllocError>
+) -> Result<Sequence<MoveRow>, AllocError>
     ensures { IfOk result (λ rows. rows ≡ spec.move_rows (up_on from.old) (up_on to.old) (range_with_len 0 count)) }
 {
     let mut old = Vec::with_capacity(alloc, SIZE_LIMIT)?;
@@ -140,12 +140,16 @@ fn moved_rows(
             rows.push(row)?;
         }
     }
-    Ok(Listed::new(rows))
+    Ok(Sequence::new(rows))
 }
 
 /// Finds the groups of a pool whose up lists differ between two maps, in order. The exceptions and
 /// the states of devices are the same on both. `Err(AllocError)`: an allocation failed.
-pub fn moves_with(alloc: Global, from: &Placer, to: &Placer) -> Result<Listed<MoveRow>, AllocError>
+pub fn moves_with(
+    alloc: Global,
+    from: &Placer,
+    to: &Placer,
+) -> Result<Sequence<MoveRow>, AllocError>
     requires states { to.now.states ≡ from.now.states }
     requires pool { to.now.pool ≡ from.now.pool }
     requires exceptions { to.now.pairs ≡ from.now.pairs }

@@ -13,7 +13,7 @@ use crate::touched_groups::impact_with;
 use crate::usage_counts::usage_with;
 use crush_bucket::Tables;
 use crush_choose::Weights;
-use crush_map::{CrushMap, Listed};
+use crush_map::{CrushMap, Sequence};
 use crush_pool::{DeviceState, DeviceStates, Exceptions, Placer, Pool, reweights_of};
 use std::alloc::{AllocError, Global};
 
@@ -33,7 +33,7 @@ pub fn usage(
     pool: &Pool,
     exceptions: &Exceptions,
     states: &[DeviceState],
-) -> Result<Listed<UsageRow>, AllocError>
+) -> Result<Sequence<UsageRow>, AllocError>
     requires rule { is_some (rule_numbered map.now pool.now.rule) ≡ true }
     requires exceptions { are_pairs pool.now.pg_num exceptions.now ≡ true }
     ensures { IfOk result (λ rows. Some rows ≡ spec.usage map.now states.now pool.now exceptions.now) }
@@ -58,7 +58,7 @@ fn moves_to(
     flags: &DeviceStates,
     pool: &Pool,
     exceptions: &Exceptions,
-) -> Result<Listed<MoveRow>, AllocError>
+) -> Result<Sequence<MoveRow>, AllocError>
     requires rule { is_some (rule_numbered to.now pool.now.rule) ≡ true }
     requires states { states.now ≡ old.now.states }
     requires pool { pool.now ≡ old.now.pool }
@@ -86,7 +86,7 @@ pub fn moves(
     pool: &Pool,
     exceptions: &Exceptions,
     states: &[DeviceState],
-) -> Result<Listed<MoveRow>, AllocError>
+) -> Result<Sequence<MoveRow>, AllocError>
     requires first { is_some (rule_numbered from.now pool.now.rule) ≡ true }
     requires second { is_some (rule_numbered to.now pool.now.rule) ≡ true }
     requires exceptions { are_pairs pool.now.pg_num exceptions.now ≡ true }
@@ -114,7 +114,7 @@ pub fn impact(
     exceptions: &Exceptions,
     states: &[DeviceState],
     device: u32,
-) -> Result<Listed<u32>, AllocError>
+) -> Result<Sequence<u32>, AllocError>
     requires rule { is_some (rule_numbered map.now pool.now.rule) ≡ true }
     requires exceptions { are_pairs pool.now.pg_num exceptions.now ≡ true }
     ensures { IfOk result (λ groups. Some groups ≡ spec.impact map.now states.now pool.now exceptions.now device) }

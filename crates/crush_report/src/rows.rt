@@ -1,7 +1,7 @@
 //! The rows of reports.
 
 use crush_choose::Slot;
-use crush_map::Listed;
+use crush_map::Sequence;
 
 /// How much of a pool lies on a device.
 #[derive(Clone, Copy, Debug, PartialEq, Eq)]
@@ -27,7 +27,7 @@ pub struct MoveRow {
     /// How many devices are in the new up list and not in the old one.
     pub gained: usize,
     /// Its up list on the first map.
-    pub old: Listed<Slot>,
+    pub old: Sequence<Slot>,
     /// Its up list on the second map.
-    pub new: Listed<Slot>,
+    pub new: Sequence<Slot>,
 }

@@ -9,7 +9,7 @@ ghost use Rattle.crush_report.specs.Reports.{impact};
 use crate::answers::{TraceMarks, is_traced};
 use crush_bucket::Scratch;
 use crush_choose::Out;
-use crush_map::Listed;
+use crush_map::Sequence;
 use crush_pool::Placer;
 use std::alloc::{AllocError, Global};
 
@@ -43,7 +43,7 @@ fn is_touched(
 /// A lower reweight of the device leaves the raw and the up list of each other group as they are
 /// (`laws::groups_that_move_are_in_an_impact_list`).
 #[tactic(auto, using(crate::proofs::Groups::touched_more))]
-pub fn impact_with(alloc: Global, placer: &Placer, device: u32) -> Result<Listed<u32>, AllocError>
+pub fn impact_with(alloc: Global, placer: &Placer, device: u32) -> Result<Sequence<u32>, AllocError>
     ensures { IfOk result (λ found. Some found ≡ impact placer.now.map placer.now.states placer.now.pool placer.now.pairs device) }
 {
     let mut scratch = Scratch::for_many(alloc, placer.tables())?;
@@ -55,5 +55,5 @@ pub fn impact_with(alloc: Global, placer: &Placer, device: u32) -> Result<Listed
             found.push(group)?;
         }
     }
-    Ok(Listed::new(found))
+    Ok(Sequence::new(found))
 }

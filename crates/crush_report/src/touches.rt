@@ -12,7 +12,7 @@ ghost use Rattle.crush_report.specs.Touches.{AreTouchesOn};
 use crush_bucket::Scratch;
 use crush_choose::Out;
 use crush_choose::laws::traces_ascend;
-use crush_map::Listed;
+use crush_map::Sequence;
 use crush_pool::{Pair, Placer, PoolParts};
 use std::alloc::{AllocError, Global};
 use std::marker::Model;
@@ -194,13 +194,13 @@ impl Touches {
 
     /// Finds the groups of a device, ascending, by a look-up and a copy. `Err(AllocError)`: an
     /// allocation failed.
-    pub fn groups_of(&self, alloc: Global, device: u32) -> Result<Listed<u32>, AllocError>
+    pub fn groups_of(&self, alloc: Global, device: u32) -> Result<Sequence<u32>, AllocError>
         ensures { IfOk result (λ found. found ≡ groups_in self.now device) }
     {
         let pairs = self.pairs.as_slice();
         let first = place_of(pairs, u64::from(device));
         let rest = &pairs[first..];
         let count = place_of(rest, u64::from(device) + 1);
-        Ok(Listed::new(groups_of(alloc, &rest[..count])?))
+        Ok(Sequence::new(groups_of(alloc, &rest[..count])?))
     }
 }

@@ -10,7 +10,7 @@ use crate::rows::UsageRow;
 use crate::up_runs::UpRun;
 use crush_choose::Slot;
 use crush_choose::limits::SIZE_LIMIT;
-use crush_map::{Device, Listed};
+use crush_map::{Device, Sequence};
 use crush_pool::Placer;
 use std::alloc::{AllocError, Global};
 use std::marker::Model;
@@ -143,7 +143,11 @@ const WORDS_KEPT: u32 = 4;
 
 /// Makes a row for each device, in the order of the devices. `Err(AllocError)`: an allocation
 /// failed.
-fn rows_of(alloc: Global, devices: &[Device], tally: &Tally) -> Result<Listed<UsageRow>, AllocError>
+fn rows_of(
+    alloc: Global,
+    devices: &[Device],
+    tally: &Tally,
+) -> Result<Sequence<UsageRow>, AllocError>
     requires { (id : ℕ) → 1000 * count_at tally.now.entries id < 2 ^ 32 }
     ensures { IfOk result (λ rows. rows ≡ map (λ d. row_by tally.now d.id) devices.now) }
 {
@@ -151,12 +155,12 @@ fn rows_of(alloc: Global, devices: &[Device], tally: &Tally) -> Result<Listed<Us
     for device in devices {
         rows.push(tally.row(device.id))?;
     }
-    Ok(Listed::new(rows))
+    Ok(Sequence::new(rows))
 }
 
 /// Counts how much of a pool lies on each device of a map, in the order of the devices.
 /// `Err(AllocError)`: an allocation failed.
-pub fn usage_with(alloc: Global, placer: &Placer) -> Result<Listed<UsageRow>, AllocError>
+pub fn usage_with(alloc: Global, placer: &Placer) -> Result<Sequence<UsageRow>, AllocError>
     ensures { IfOk result (λ rows. Some rows ≡ usage placer.now.map placer.now.states placer.now.pool placer.now.pairs) }
 {
     let parts = placer.pool_parts();

@@ -19,7 +19,7 @@ use Rattle.crush_map.specs.declared.draft.Rule.{Rule}
 use Rattle.crush_map.specs.crush_types.specs.declared.ItemId.{ItemId}
 use Rattle.crush_map.specs.crush_types.specs.declared.Weight.{Weight}
 use Rattle.crush_map.specs.crush_types.specs.declared.Kind.{Kind}
-use Rattle.crush_map.specs.Faults.{Known, Ids, first_of, or_else, ◌when◌, at_place, first_in, nothing, no_ids, has_number, has_id, has_name, with_id, is_name, is_bucket_id, is_too_heavy, items_fault, contents_fault, type_fault, device_fault, bucket_fault, rule_fault, choose_fault, step_fault, steps_fault, rule_head_checks, end_fault, with_type, with_device, with_bucket, with_rule, known_types, known_devices, known_buckets, known_rules, element_fault, first_fault}
+use Rattle.crush_map.specs.Faults.{SymbolTable, Ids, first_of, or_else, ◌when◌, at_place, first_in, nothing, no_ids, has_number, has_id, has_name, with_id, is_name, is_bucket_id, is_too_heavy, items_fault, contents_fault, type_fault, device_fault, bucket_fault, rule_fault, choose_fault, step_fault, steps_fault, rule_head_checks, end_fault, with_type, with_device, with_bucket, with_rule, known_types, known_devices, known_buckets, known_rules, element_fault, first_fault}
 use Rattle.crush_map.specs.crush_types.specs.Kinds.{is_uniform}
 use Rattle.crush_grammar.specs.Syntax.{Text, Early, Late, early_declares, late_declares, text_declares}
 use Rattle.crush_grammar.specs.Syntax.Early.{ATunable, ADevice, AType}
@@ -41,7 +41,7 @@ none_place e i None h = refl
 none_place e i (Some code) h = cc
 
 -- behind elements without a fault, one without a fault
-one_more : {X : Type 0} (e : Element) (check : Known → X → Option FaultCode) (with : Known → X → Known) (i : ℕ) (known : Known) (xs : List X) (x : X) →
+one_more : {X : Type 0} (e : Element) (check : SymbolTable → X → Option FaultCode) (with : SymbolTable → X → SymbolTable) (i : ℕ) (known : SymbolTable) (xs : List X) (x : X) →
     first_in e check with i known xs ≡ None → check (fold with known xs) x ≡ None → first_in e check with i known (xs ++ x ∷ []) ≡ None
 unfolding first_in
 one_more e check with i known [] x h k = both_none _ _ (place_none e i (check known x) k) refl
@@ -50,39 +50,39 @@ one_more e check with i known (y ∷ xs) x h k =
 
 -- elements have no fault behind other knowledge, where each check and each further knowledge goes
 -- over to it
-as_well : {X : Type 0} (e : Element) (check : Known → X → Option FaultCode) (with : Known → X → Known) (other : Known → Known) →
-    ((known : Known) (x : X) → check known x ≡ None → check (other known) x ≡ None) → ((known : Known) (x : X) → with (other known) x ≡ other (with known x)) →
-    (i : ℕ) (known : Known) (xs : List X) → first_in e check with i known xs ≡ None → first_in e check with i (other known) xs ≡ None
+as_well : {X : Type 0} (e : Element) (check : SymbolTable → X → Option FaultCode) (with : SymbolTable → X → SymbolTable) (other : SymbolTable → SymbolTable) →
+    ((known : SymbolTable) (x : X) → check known x ≡ None → check (other known) x ≡ None) → ((known : SymbolTable) (x : X) → with (other known) x ≡ other (with known x)) →
+    (i : ℕ) (known : SymbolTable) (xs : List X) → first_in e check with i known xs ≡ None → first_in e check with i (other known) xs ≡ None
 unfolding first_in
 as_well e check with other same swap i known [] h = refl
 as_well e check with other same swap i known (x ∷ xs) h =
     let here = same known x (none_place e i (check known x) (first_none (at_place e i (check known x)) _ h)) in
     both_none _ _ (place_none e i (check (other known) x) here) (rw (swap known x) (as_well e check with other same swap (i + 1) (with known x) xs (second_none (at_place e i (check known x)) _ h)))
 
-fold_swap : {X : Type 0} (with : Known → X → Known) (other : Known → Known) → ((known : Known) (x : X) → with (other known) x ≡ other (with known x)) → (known : Known) (xs : List X) → fold with (other known) xs ≡ other (fold with known xs)
+fold_swap : {X : Type 0} (with : SymbolTable → X → SymbolTable) (other : SymbolTable → SymbolTable) → ((known : SymbolTable) (x : X) → with (other known) x ≡ other (with known x)) → (known : SymbolTable) (xs : List X) → fold with (other known) xs ≡ other (fold with known xs)
 fold_swap with other swap known [] = refl
 fold_swap with other swap known (x ∷ xs) = rw (swap known x) (fold_swap with other swap (with known x) xs)
 
 -- ---- what checks rest on
 
 -- a device is judged without the types
-device_as_well : (t : TypeName) (known : Known) (d : Device) → device_fault known d ≡ None → device_fault (with_type known t) d ≡ None
+device_as_well : (t : TypeName) (known : SymbolTable) (d : Device) → device_fault known d ≡ None → device_fault (with_type known t) d ≡ None
 unfolding device_fault
 device_as_well t known d h = h
 
-items_as_well : (r : Rule) (known : Known) (before : Ids) (items : List (ItemId × Weight)) → items_fault (with_rule known r) before items ≡ items_fault known before items
+items_as_well : (r : Rule) (known : SymbolTable) (before : Ids) (items : List (ItemId × Weight)) → items_fault (with_rule known r) before items ≡ items_fault known before items
 unfolding items_fault
 items_as_well r known before [] = refl
 items_as_well r known before (item ∷ items) =
     ap (λ o. first_of ((M5 when not (has_id known.items item.0.0)) ∷ (M6 when has_id before item.0.0) ∷ o ∷ [])) (items_as_well r known (with_id before item.0.0) items)
 
-contents_as_well : (r : Rule) (known : Known) (alg : Kind) (items : List (ItemId × Weight)) → contents_fault (with_rule known r) alg items ≡ contents_fault known alg items
+contents_as_well : (r : Rule) (known : SymbolTable) (alg : Kind) (items : List (ItemId × Weight)) → contents_fault (with_rule known r) alg items ≡ contents_fault known alg items
 unfolding contents_fault
 contents_as_well r known alg items =
     ap (λ o. first_of (o ∷ (M8 when (is_uniform alg && not (has_equal_weights items))) ∷ (M7 when is_too_heavy alg items) ∷ [])) (items_as_well r known no_ids items)
 
 -- a bucket is judged without the rules
-bucket_as_well : (r : Rule) (known : Known) (b : Bucket) → bucket_fault (with_rule known r) b ≡ bucket_fault known b
+bucket_as_well : (r : Rule) (known : SymbolTable) (b : Bucket) → bucket_fault (with_rule known r) b ≡ bucket_fault known b
 unfolding bucket_fault
 bucket_as_well r known b =
     ap (λ o. first_of (
@@ -98,7 +98,7 @@ bucket_as_well r known b =
     ∷ []
     )) (contents_as_well r known b.alg b.items)
 
-without_rules : (known : Known) (rs : List Rule) (b : Bucket) → bucket_fault (fold with_rule known rs) b ≡ None → bucket_fault known b ≡ None
+without_rules : (known : SymbolTable) (rs : List Rule) (b : Bucket) → bucket_fault (fold with_rule known rs) b ≡ None → bucket_fault known b ≡ None
 without_rules known [] b h = h
 without_rules known (r ∷ rs) b h = sym (bucket_as_well r known b) ∙ without_rules (with_rule known r) rs b h
 
@@ -125,7 +125,7 @@ take_none : (b : Bool) → b ≡ true → (M10 when not b) ≡ None
 take_none true h = refl
 take_none false h = cc
 
-step_as_well : (b : Bucket) (known : Known) (step : Step) → step_fault known step ≡ None → step_fault (with_bucket known b) step ≡ None
+step_as_well : (b : Bucket) (known : SymbolTable) (step : Step) → step_fault known step ≡ None → step_fault (with_bucket known b) step ≡ None
 unfolding step_fault choose_fault
 step_as_well b known (draft_steps.Take id) h = take_none _ (id_as_well known.items b.id.0 id.0 (not_false (has_id known.items id.0) (fails M10 (not (has_id known.items id.0)) h)))
 step_as_well b known (draft_steps.SetChooseTries tries) h = h
@@ -135,13 +135,13 @@ step_as_well b known (draft_steps.SetStable value) h = h
 step_as_well b known (draft_steps.Choose firstn leaf n wanted) h = h
 step_as_well b known draft_steps.Emit h = h
 
-steps_as_well : (b : Bucket) (known : Known) (xs : List Step) → steps_fault known xs ≡ None → steps_fault (with_bucket known b) xs ≡ None
+steps_as_well : (b : Bucket) (known : SymbolTable) (xs : List Step) → steps_fault known xs ≡ None → steps_fault (with_bucket known b) xs ≡ None
 steps_as_well b known [] h = refl
 steps_as_well b known (x ∷ xs) h =
     both_none _ _ (step_as_well b known x (first_none (step_fault known x) _ h)) (steps_as_well b known xs (second_none (step_fault known x) _ h))
 
 -- a rule without a fault has none where one more bucket is known
-rule_as_well : (b : Bucket) (known : Known) (r : Rule) → rule_fault known r ≡ None → rule_fault (with_bucket known b) r ≡ None
+rule_as_well : (b : Bucket) (known : SymbolTable) (r : Rule) → rule_fault known r ≡ None → rule_fault (with_bucket known b) r ≡ None
 unfolding rule_fault
 rule_as_well b known r h =
     let parts : or_else (first_of (rule_head_checks known r)) (steps_fault known r.steps) ≡ None = sym (last_of (rule_head_checks known r) (steps_fault known r.steps)) ∙ h in
@@ -179,7 +179,7 @@ early_device s d clean h = record {
 }
 
 -- a type is judged by the types alone
-type_alone : (known : Known) (ds : List Device) (t : TypeName) → type_fault (fold with_device known ds) t ≡ type_fault known t
+type_alone : (known : SymbolTable) (ds : List Device) (t : TypeName) → type_fault (fold with_device known ds) t ≡ type_fault known t
 unfolding type_fault
 type_alone known [] t = refl
 type_alone known (d ∷ ds) t = type_alone (with_device known d) ds t
@@ -210,12 +210,12 @@ pub record LateSound (s : Declared) : Type 0 where
   pub rules : first_in Rules rule_fault with_rule 0 (known_buckets s.draft) s.draft.rules ≡ None
   pub known : s.known ≡ known_rules s.draft
 
-none_yet : {X : Type 0} (e : Element) (check : Known → X → Option FaultCode) (with : Known → X → Known) (known : Known) (xs : List X) → xs ≡ [] → first_in e check with 0 known xs ≡ None
+none_yet : {X : Type 0} (e : Element) (check : SymbolTable → X → Option FaultCode) (with : SymbolTable → X → SymbolTable) (known : SymbolTable) (xs : List X) → xs ≡ [] → first_in e check with 0 known xs ≡ None
 unfolding first_in
 none_yet e check with known [] h = refl
 none_yet e check with known (x ∷ xs) h = cc
 
-fold_none : {X : Type 0} (with : Known → X → Known) (known : Known) (xs : List X) → xs ≡ [] → known ≡ fold with known xs
+fold_none : {X : Type 0} (with : SymbolTable → X → SymbolTable) (known : SymbolTable) (xs : List X) → xs ≡ [] → known ≡ fold with known xs
 fold_none with known [] h = refl
 fold_none with known (x ∷ xs) h = cc
 

@@ -10,7 +10,7 @@ use Rattle.crush_map.specs.declared.draft.Device.{Device}
 use Rattle.crush_map.specs.declared.draft.Bucket.{Bucket}
 use Rattle.crush_map.specs.declared.draft.Rule.{Rule}
 use Rattle.crush_map.specs.declared.draft.Tunables.{Tunables}
-use Rattle.crush_map.specs.Faults.{Known, ◌when◌, first_of, nothing, are_in_range, type_fault, device_fault, bucket_fault, rule_fault, with_type, with_device, with_bucket, with_rule, known_types, known_devices, known_buckets}
+use Rattle.crush_map.specs.Faults.{SymbolTable, ◌when◌, first_of, nothing, are_in_range, type_fault, device_fault, bucket_fault, rule_fault, with_type, with_device, with_bucket, with_rule, known_types, known_devices, known_buckets}
 use Rattle.crush_map.specs.Map.{Map, draft_of}
 use Rattle.crush_map.specs.Sound.{IsTypeAt, IsDeviceAt, IsBucketAt, IsRuleAt, IsStep, has_item}
 use Rattle.crush_grammar.specs.declared.declaration.Declaration.{Declaration}
@@ -104,7 +104,7 @@ tunables_go m range n =
 device_goes : (m : Map) (before : List Device) (x : Device) → x.id ≤ NUMBER_LIMIT → device_fault (by_devices before) x ≡ None → (n : ℕ) → Goes (with_devices m before) (device_declared n x ∷ []) (with_devices m (before ++ x ∷ []))
 device_goes m before x small passes n =
     let same : fitted x.id ≡ x.id = fits x.id small in
-    let state = λ (k : Known) (y : Device). declared_so_far m.tunables [] (before ++ y ∷ []) [] [] k in
+    let state = λ (k : SymbolTable) (y : Device). declared_so_far m.tunables [] (before ++ y ∷ []) [] [] k in
     one_goes (with_devices m before) (device_declared n x) (with_devices m (before ++ x ∷ []))
     (ap (at_line n) (ap (λ id. device_fault (by_devices before) (record { id = id; name = x.name })) same ∙ passes))
     (ap (λ id. state (with_device (by_devices before) (record { id = id; name = x.name })) (record { id = id; name = x.name })) same
@@ -119,7 +119,7 @@ type_goes : (m : Map) (before : List TypeName) (x : TypeName) → x.number ≤ N
 type_goes m before x small passes n =
     let same : fitted x.number ≡ x.number = fits x.number small in
     let known = fold with_type (by_devices m.devices) before in
-    let state = λ (k : Known) (y : TypeName). declared_so_far m.tunables (before ++ y ∷ []) m.devices [] [] k in
+    let state = λ (k : SymbolTable) (y : TypeName). declared_so_far m.tunables (before ++ y ∷ []) m.devices [] [] k in
     one_goes (with_types m before) (type_declared n x) (with_types m (before ++ x ∷ []))
     (ap (at_line n) (ap (λ number. type_fault known (record { number = number; name = x.name })) same ∙ passes))
     (ap (λ number. state (with_type known (record { number = number; name = x.name })) (record { number = number; name = x.name })) same
@@ -143,7 +143,7 @@ bucket_goes m s before b after e is passes n =
     let earlier : take (length before) m.buckets ≡ before = ap (take (length before)) e ∙ taken before b after in
     let items = subst (λ bs. AllByRecursion (λ x. has_item m.devices bs x.0.0 ≡ true) b.items) earlier (items_declared m (length before) b is) in
     let same : bucket_of (with_buckets m before).draft (bucket_written m n b) ≡ b = bucket_back (with_buckets m before).draft m n b (part_of m s before (b ∷ after) e) is.id is.typed items in
-    let state = λ (k : Known) (y : Bucket). declared_so_far m.tunables m.types m.devices (before ++ y ∷ []) [] k in
+    let state = λ (k : SymbolTable) (y : Bucket). declared_so_far m.tunables m.types m.devices (before ++ y ∷ []) [] k in
     one_goes (with_buckets m before) (bucket_declared m n b) (with_buckets m (before ++ b ∷ []))
     (rw (no_wrong_place m b.items) (ap (at_line n) (ap (bucket_fault known) same ∙ passes)))
     (ap (λ y. state (with_bucket known y) y) same ∙ ap (λ k. state k b) (sym (fold_push with_bucket (known_devices (draft_of m)) before b)))
@@ -165,7 +165,7 @@ rule_goes m s before r is passes n =
     let part = whole_part m s before in
     let steps = all_by (IsStep m) r.steps is.steps in
     let same : rule_of (with_rules m before).draft (rule_written m n r) ≡ r = rule_back (with_rules m before).draft m n r part refl is.id steps in
-    let state = λ (k : Known) (y : Rule). declared_so_far m.tunables m.types m.devices m.buckets (before ++ y ∷ []) k in
+    let state = λ (k : SymbolTable) (y : Rule). declared_so_far m.tunables m.types m.devices m.buckets (before ++ y ∷ []) k in
     one_goes (with_rules m before) (rule_declared m n r) (with_rules m (before ++ r ∷ []))
     (ap (at_line n) (rule_passes (with_rules m before) m n r part refl is.id steps passes))
     (ap (λ y. state (with_rule known y) y) same ∙ ap (λ k. state k r) (sym (fold_push with_rule (known_buckets (draft_of m)) before r)))

@@ -10,7 +10,7 @@ use Rattle.crush_map.specs.declared.draft.Bucket.{Bucket}
 use Rattle.crush_map.specs.declared.draft.Step.{Step}
 use Rattle.crush_map.specs.crush_types.specs.Kinds.{is_straw2}
 use Rattle.crush_map.specs.crush_types.specs.Weights.{total_weight}
-use Rattle.crush_map.specs.Faults.{Known, first_of, ◌when◌, device_fault, device_checks, bucket_fault, bucket_checks, contents_fault, items_fault, is_heavy, is_too_heavy, no_ids, rule_fault, rule_head_fault, rule_head_checks, steps_fault}
+use Rattle.crush_map.specs.Faults.{SymbolTable, first_of, ◌when◌, device_fault, device_checks, bucket_fault, bucket_checks, contents_fault, items_fault, is_heavy, is_too_heavy, no_ids, rule_fault, rule_head_fault, rule_head_checks, steps_fault}
 use Rattle.crush_grammar.specs.declared.declaration.Setting.TheVariants as settings
 use Rattle.crush_grammar.specs.declared.declaration.DeclaredRule.{DeclaredRule}
 use Rattle.crush_grammar.specs.declared.declaration.DeclaredStep.{DeclaredStep}
@@ -22,20 +22,20 @@ at_most : (n m : ℕ) → nat_lt m n ≡ false → n ≤ m
 at_most n m h = grind (arith, nat_tests)
 
 -- the id of a device without a fault
-pub is_small : (known : Known) (d : Device) → device_fault known d ≡ None → d.id ≤ NUMBER_LIMIT
+pub is_small : (known : SymbolTable) (d : Device) → device_fault known d ≡ None → d.id ≤ NUMBER_LIMIT
 unfolding device_fault
 is_small known d h = at_most _ _ (fails M12 _ (passes (device_checks known d) 1 (M12 when nat_lt NUMBER_LIMIT d.id) refl h))
 
-pub is_few : (known : Known) (b : Bucket) → bucket_fault known b ≡ None → length b.items ≤ ITEM_LIMIT
+pub is_few : (known : SymbolTable) (b : Bucket) → bucket_fault known b ≡ None → length b.items ≤ ITEM_LIMIT
 unfolding bucket_fault
 is_few known b h = at_most _ _ (fails M1 _ (passes (bucket_checks known b) 7 (M1 when nat_lt ITEM_LIMIT (length b.items)) refl h))
 
-light_by : (known : Known) (b : Bucket) → contents_fault known b.alg b.items ≡ None → total_weight b.items ≤ TOTAL_WEIGHT_LIMIT
+light_by : (known : SymbolTable) (b : Bucket) → contents_fault known b.alg b.items ≡ None → total_weight b.items ≤ TOTAL_WEIGHT_LIMIT
 unfolding contents_fault
 light_by known b h =
     at_most _ _ (left_false _ (is_straw2 b.alg && list_any is_heavy b.items) (fails M7 _ (first_none (M7 when is_too_heavy b.alg b.items) None (second_none _ _ (second_none (items_fault known no_ids b.items) _ h)))))
 
-pub is_light : (known : Known) (b : Bucket) → bucket_fault known b ≡ None → total_weight b.items ≤ TOTAL_WEIGHT_LIMIT
+pub is_light : (known : SymbolTable) (b : Bucket) → bucket_fault known b ≡ None → total_weight b.items ≤ TOTAL_WEIGHT_LIMIT
 unfolding bucket_fault
 is_light known b h = light_by known b (passes (bucket_checks known b) 8 (contents_fault known b.alg b.items) refl h)
 
@@ -56,7 +56,7 @@ kept_step s (steps.Take name) h = h
 kept_step s (steps.Choose firstn leaf n wanted) h = h
 kept_step s steps.Emit h = h
 
-one_more : (known : Known) (o : Option Step) (kept : List Step) → kept_step_fault known o ≡ None → steps_fault known kept ≡ None → steps_fault known (cons_option o kept) ≡ None
+one_more : (known : SymbolTable) (o : Option Step) (kept : List Step) → kept_step_fault known o ≡ None → steps_fault known kept ≡ None → steps_fault known (cons_option o kept) ≡ None
 one_more known None kept h k = k
 one_more known (Some step) kept h k = both_none _ _ h k
 

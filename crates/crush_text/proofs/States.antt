@@ -5,7 +5,7 @@ use Rattle.crush_map.specs.declared.draft.Device.{Device}
 use Rattle.crush_map.specs.declared.draft.Bucket.{Bucket}
 use Rattle.crush_map.specs.declared.draft.Rule.{Rule}
 use Rattle.crush_map.specs.declared.draft.Tunables.{Tunables}
-use Rattle.crush_map.specs.Faults.{Known, Ids, nothing, type_fault, device_fault, with_type, with_device, with_bucket, with_rule, known_types, known_devices, known_buckets}
+use Rattle.crush_map.specs.Faults.{SymbolTable, Ids, nothing, type_fault, device_fault, with_type, with_device, with_bucket, with_rule, known_types, known_devices, known_buckets}
 use Rattle.crush_map.specs.Map.{Map, draft_of}
 use Rattle.crush_grammar.specs.declared.declaration.TunableName.{TunableName}
 use Rattle.crush_grammar.specs.declared.declaration.TunableName.TheVariants.{LocalTries, LocalFallbackTries, TotalTries, DescendOnce, VaryR, Stable}
@@ -13,30 +13,30 @@ use Rattle.crush_text.specs.Judging.{Declared}
 
 -- ---- types and devices are known apart from one another
 
-abbrev types_of : Known → List ℕ → List (List ℕ) → Known
+abbrev types_of : SymbolTable → List ℕ → List (List ℕ) → SymbolTable
 types_of k numbers names = record k { types = numbers; type_names = names }
 
-abbrev items_of : Known → Ids → List (List ℕ) → Known
+abbrev items_of : SymbolTable → Ids → List (List ℕ) → SymbolTable
 items_of k ids names = record k { items = ids; item_names = names }
 
-types_alone : (k : Known) (ids : Ids) (names : List (List ℕ)) (xs : List TypeName) → fold with_type (items_of k ids names) xs ≡ items_of (fold with_type k xs) ids names
+types_alone : (k : SymbolTable) (ids : Ids) (names : List (List ℕ)) (xs : List TypeName) → fold with_type (items_of k ids names) xs ≡ items_of (fold with_type k xs) ids names
 types_alone k ids names [] = refl
 types_alone k ids names (x ∷ xs) = types_alone (with_type k x) ids names xs
 
-types_keep : (k : Known) (xs : List TypeName) → fold with_type k xs ≡ types_of k (fold with_type k xs).types (fold with_type k xs).type_names
+types_keep : (k : SymbolTable) (xs : List TypeName) → fold with_type k xs ≡ types_of k (fold with_type k xs).types (fold with_type k xs).type_names
 types_keep k [] = refl
 types_keep k (x ∷ xs) = types_keep (with_type k x) xs
 
-devices_alone : (k : Known) (numbers : List ℕ) (names : List (List ℕ)) (xs : List Device) → fold with_device (types_of k numbers names) xs ≡ types_of (fold with_device k xs) numbers names
+devices_alone : (k : SymbolTable) (numbers : List ℕ) (names : List (List ℕ)) (xs : List Device) → fold with_device (types_of k numbers names) xs ≡ types_of (fold with_device k xs) numbers names
 devices_alone k numbers names [] = refl
 devices_alone k numbers names (x ∷ xs) = devices_alone (with_device k x) numbers names xs
 
-devices_keep : (k : Known) (xs : List Device) → fold with_device k xs ≡ items_of k (fold with_device k xs).items (fold with_device k xs).item_names
+devices_keep : (k : SymbolTable) (xs : List Device) → fold with_device k xs ≡ items_of k (fold with_device k xs).items (fold with_device k xs).item_names
 devices_keep k [] = refl
 devices_keep k (x ∷ xs) = devices_keep (with_device k x) xs
 
 -- what is known behind devices alone
-abbrev pub by_devices : List Device → Known
+abbrev pub by_devices : List Device → SymbolTable
 by_devices xs = fold with_device nothing xs
 
 -- a device is judged by devices alone
@@ -68,7 +68,7 @@ abbrev pub all_tunables : List TunableName
 all_tunables = LocalTries ∷ LocalFallbackTries ∷ TotalTries ∷ DescendOnce ∷ VaryR ∷ Stable ∷ []
 
 -- what was declared behind the tunables: types, devices, buckets and rules, and what is known
-abbrev pub declared_so_far : Tunables → List TypeName → List Device → List Bucket → List Rule → Known → Declared
+abbrev pub declared_so_far : Tunables → List TypeName → List Device → List Bucket → List Rule → SymbolTable → Declared
 declared_so_far t types devices buckets rules known = record {
   draft = record { types = types; devices = devices; buckets = buckets; rules = rules; local_tries = 0; local_fallback_tries = 0; tunables = t };
   known = known;

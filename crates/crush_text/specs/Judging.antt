@@ -17,7 +17,7 @@ use Rattle.crush_map.specs.declared.draft.MapDraft.{MapDraft}
 use Rattle.crush_map.specs.crush_types.specs.declared.ItemId.{ItemId}
 use Rattle.crush_map.specs.crush_types.specs.declared.Weight.{Weight}
 use Rattle.crush_map.specs.crush_types.specs.Weights.{total_weight}
-use Rattle.crush_map.specs.Faults.{◌when◌, or_else, first_of, Known, nothing, has_number, are_in_range, type_fault, device_fault, bucket_fault, rule_head_fault, step_fault, end_fault, with_type, with_device, with_bucket, with_rule}
+use Rattle.crush_map.specs.Faults.{◌when◌, or_else, first_of, SymbolTable, nothing, has_number, are_in_range, type_fault, device_fault, bucket_fault, rule_head_fault, step_fault, end_fault, with_type, with_device, with_bucket, with_rule}
 use Rattle.crush_text.specs.Places.{wrong_place, in_place}
 use Rattle.crush_grammar.specs.declared.code.TextCode.TheVariants.{X5, Map}
 use Rattle.crush_grammar.specs.declared.code.TextFault.{TextFault}
@@ -39,7 +39,7 @@ use Rattle.crush_grammar.specs.declared.declaration.Declaration.TheVariants as d
 -- named
 pub record Declared : Type 0 where
   pub draft : MapDraft
-  pub known : Known
+  pub known : SymbolTable
   pub tunables : List TunableName
 
 -- before the first declaration; a tunable that no declaration names has its legacy value
@@ -168,7 +168,7 @@ rule_of d r = record { id = fitted r.id; name = r.name; erasure = r.erasure; ste
 
 -- ---- faults
 
-abbrev pub kept_step_fault : Known → Option Step → Option FaultCode
+abbrev pub kept_step_fault : SymbolTable → Option Step → Option FaultCode
 kept_step_fault known None = None
 kept_step_fault known (Some step) = step_fault known step
 

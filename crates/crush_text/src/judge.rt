@@ -18,7 +18,7 @@ use crush_grammar::{
     DeclaredTunable, DeclaredType, Setting, TextCode, TextFault, TunableName,
 };
 use crush_map::{
-    Bucket, Device, FaultCode, ItemId, Known, Listed, MapDraft, Rule, Step, Text, Tunables,
+    Bucket, Device, FaultCode, ItemId, MapDraft, Rule, Sequence, Step, SymbolTable, Text, Tunables,
     TypeName, Weight, are_in_range,
 };
 use std::alloc::{AllocError, Global};
@@ -28,7 +28,7 @@ use std::marker::Model;
 /// tunables that were named.
 #[derive(Drop)]
 pub(crate) struct Judge {
-    known: Known,
+    known: SymbolTable,
     types: Vec<TypeName>,
     devices: DeviceTable,
     buckets: BucketTable,
@@ -117,7 +117,7 @@ impl Judge {
         ensures { result ≡ spec.nothing_declared }
     {
         Judge {
-            known: Known::new(alloc),
+            known: SymbolTable::new(alloc),
             types: Vec::new(alloc),
             devices: DeviceTable::new(alloc),
             buckets: BucketTable::new(alloc),
@@ -310,7 +310,7 @@ impl Judge {
             name: Text::copy(alloc, declared.head.name.as_str())?,
             kind_of: type_number(self.types.as_slice(), declared.head.type_name.as_str()),
             alg: declared.alg,
-            items: Listed::new(items),
+            items: Sequence::new(items),
         })
     }
 
@@ -409,7 +409,7 @@ impl Judge {
             id: fitted(declared.id),
             name: Text::copy(alloc, declared.name.as_str())?,
             erasure: declared.erasure,
-            steps: Listed::new(steps),
+            steps: Sequence::new(steps),
         })
     }
 
@@ -476,7 +476,7 @@ impl Judge {
     }
 
     /// Returns what is known, and the draft of the map. Allocates nothing.
-    pub(crate) fn into_parts(self) -> (Known, MapDraft)
+    pub(crate) fn into_parts(self) -> (SymbolTable, MapDraft)
         ensures known { result.0 ≡ self.known }
         ensures draft { result.1 ≡ self.draft }
     {
@@ -492,10 +492,10 @@ impl Judge {
             ..
         } = self;
         let draft = MapDraft {
-            types: Listed::new(types),
-            devices: Listed::new(devices.into_vec()),
-            buckets: Listed::new(buckets.into_vec()),
-            rules: Listed::new(rules),
+            types: Sequence::new(types),
+            devices: Sequence::new(devices.into_vec()),
+            buckets: Sequence::new(buckets.into_vec()),
+            rules: Sequence::new(rules),
             local_tries,
             local_fallback_tries,
             tunables,

@@ -14,12 +14,12 @@ use std::marker::Model;
 /// Contracts see the values of all ids that a device can have, in order, and that of the rest. The
 /// table in memory reaches to the greatest id that was given a value.
 #[derive(Drop)]
-pub struct ByDevice<T> {
+pub struct DeviceVec<T> {
     rest: T,
     table: Vec<T>,
 }
 
-impl<T> Model for ByDevice<T> {
+impl<T> Model for DeviceVec<T> {
     ghost use Rattle.std.specs.Prelude.{◌≤◌, length};
     ghost use Rattle.crush_types.specs.declared.limits.TheConstants.{ID_COUNT};
     ghost use Rattle.crush_types.specs.DeviceValues.{Values};
@@ -48,7 +48,7 @@ fn reach<T: Copy>(table: &mut Vec<T>, len: usize, rest: T) -> Result<(), AllocEr
     Ok(())
 }
 
-impl<T: Copy> ByDevice<T> {
+impl<T: Copy> DeviceVec<T> {
     /// Makes the table in which each id has the value `rest`. It has room for the first `reached`
     /// ids, at most `ID_COUNT`.
     ///
@@ -59,7 +59,7 @@ impl<T: Copy> ByDevice<T> {
     {
         let mut table = Vec::new(alloc);
         reach(&mut table, reached.min(ID_COUNT), rest)?;
-        Ok(ByDevice { rest, table })
+        Ok(DeviceVec { rest, table })
     }
 
     /// Makes the table of pairs of id and value. It has room for at least the first `reached` ids,
@@ -78,7 +78,7 @@ impl<T: Copy> ByDevice<T> {
         ensures all { IfOk result (λ t. t ≡ spec.values_of rest given.now) }
         ensures each { IfOk result (λ t. (id : ℕ) → spec.value_at t id ≡ spec.value_of rest given.now id) }
     {
-        let mut table = ByDevice::new(alloc, rest, reached)?;
+        let mut table = DeviceVec::new(alloc, rest, reached)?;
         for place in (0..given.len()).rev() {
             let pair = given[place];
             table.set(pair.0, pair.1)?;

@@ -12,8 +12,8 @@ mod text;
 mod weights;
 mod word;
 
-pub use by_device::ByDevice;
-pub use list::Listed;
+pub use by_device::DeviceVec;
+pub use list::Sequence;
 pub use text::Text;
 pub use weights::{has_equal_weights, total_weight};
 pub use word::{ItemId, Kind, Weight};

@@ -7,11 +7,11 @@ use std::marker::Model;
 /// A list. Contracts see its elements, so lists with the same elements are equal, whatever their
 /// capacity.
 #[derive(Drop)]
-pub struct Listed<T> {
+pub struct Sequence<T> {
     elements: Vec<T>,
 }
 
-impl<T> Model for Listed<T> {
+impl<T> Model for Sequence<T> {
     ghost use Rattle.std.specs.Prelude.{List};
 
     ghost Value = { List T };
@@ -19,12 +19,12 @@ impl<T> Model for Listed<T> {
     ghost view = { λ a. a.elements.items };
 }
 
-impl<T> Listed<T> {
+impl<T> Sequence<T> {
     /// Makes the list of a vector's elements. Allocates nothing.
     pub fn new(elements: Vec<T>) -> Self
         ensures { result ≡ elements.items }
     {
-        Listed { elements }
+        Sequence { elements }
     }
 
     /// Returns the elements, in order.
@@ -38,7 +38,7 @@ impl<T> Listed<T> {
     pub fn into_vec(self) -> Vec<T>
         ensures { result.items ≡ self }
     {
-        let Listed { elements } = self;
+        let Sequence { elements } = self;
         elements
     }
 }

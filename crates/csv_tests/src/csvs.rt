@@ -1,6 +1,6 @@
 //! Reports as CSV, and changes of devices from CSV.
 
-use crush_map::{ItemId, Listed};
+use crush_map::{ItemId, Sequence};
 use crush_pool::limits::CHANGE_LIMIT;
 use crush_report::{DeviceChange, MoveRow, UsageRow, moves_csv, read_device_csv, usage_csv};
 use std::alloc::{AllocError, Global};
@@ -34,7 +34,7 @@ fn each_device_has_a_line_of_its_numbers(rt: HostRuntime) -> Result<(), Fail> {
 }
 
 /// Makes a list of `devices`, with none where the number is below 0.
-fn list(alloc: Global, devices: &[i32]) -> Result<Listed<Option<ItemId>>, AllocError> {
+fn list(alloc: Global, devices: &[i32]) -> Result<Sequence<Option<ItemId>>, AllocError> {
     let mut all = Vec::new(alloc);
     for device in devices {
         all.push(if *device < 0 {
@@ -43,7 +43,7 @@ fn list(alloc: Global, devices: &[i32]) -> Result<Listed<Option<ItemId>>, AllocE
             Some(ItemId(*device))
         })?;
     }
-    Ok(Listed::new(all))
+    Ok(Sequence::new(all))
 }
 
 #[test]

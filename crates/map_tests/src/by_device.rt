@@ -1,7 +1,7 @@
 //! A value for each id that a device can have.
 
 use crate::same::assert_same_at;
-use crush_map::ByDevice;
+use crush_map::DeviceVec;
 use crush_map::limits::{ID_COUNT, NUMBER_LIMIT};
 use std::test::Fail;
 
@@ -11,7 +11,7 @@ const NO_ID: u32 = ID_COUNT as u32;
 #[test]
 fn the_first_pair_of_an_id_counts(rt: HostRuntime) -> Result<(), Fail> {
     let given: &[(u32, u32)] = &[(7, 1), (NUMBER_LIMIT, 2), (7, 3), (NO_ID, 4)];
-    let table = ByDevice::of(rt.alloc(), 9, 3, given)?;
+    let table = DeviceVec::of(rt.alloc(), 9, 3, given)?;
     for (id, expected) in [
         (0, 9),
         (3, 9),
@@ -29,7 +29,7 @@ fn the_first_pair_of_an_id_counts(rt: HostRuntime) -> Result<(), Fail> {
 
 #[test]
 fn a_value_takes_the_place_of_another(rt: HostRuntime) -> Result<(), Fail> {
-    let mut flags = ByDevice::new(rt.alloc(), true, 2)?;
+    let mut flags = DeviceVec::new(rt.alloc(), true, 2)?;
     for (id, flag) in [(1, false), (5, false), (1, true), (NO_ID, false)] {
         flags.set(id, flag)?;
     }

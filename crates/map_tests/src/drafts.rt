@@ -1,8 +1,8 @@
 //! Drafts of maps, written shortly.
 
 use crush_map::{
-    Bucket, CrushMap, Device, ItemId, Kind, Listed, MapDraft, Rule, Step, Text, Tunables, TypeName,
-    Weight,
+    Bucket, CrushMap, Device, ItemId, Kind, MapDraft, Rule, Sequence, Step, Text, Tunables,
+    TypeName, Weight,
 };
 use std::alloc::{AllocError, Global};
 use std::test::Fail;
@@ -78,21 +78,21 @@ fn named(alloc: Global, short: &[(u32, &str)]) -> Result<Vec<(u32, Text)>, Alloc
 }
 
 /// Makes the types of numbers and names.
-pub fn types(alloc: Global, named: Vec<(u32, Text)>) -> Result<Listed<TypeName>, AllocError> {
+pub fn types(alloc: Global, named: Vec<(u32, Text)>) -> Result<Sequence<TypeName>, AllocError> {
     let mut types = Vec::new(alloc);
     for (number, name) in named {
         types.push(TypeName { number, name })?;
     }
-    Ok(Listed::new(types))
+    Ok(Sequence::new(types))
 }
 
 /// Makes the devices of ids and names.
-pub fn devices(alloc: Global, named: Vec<(u32, Text)>) -> Result<Listed<Device>, AllocError> {
+pub fn devices(alloc: Global, named: Vec<(u32, Text)>) -> Result<Sequence<Device>, AllocError> {
     let mut devices = Vec::new(alloc);
     for (id, name) in named {
         devices.push(Device { id, name })?;
     }
-    Ok(Listed::new(devices))
+    Ok(Sequence::new(devices))
 }
 
 /// Makes items with their weights.
@@ -104,7 +104,7 @@ pub fn entries(alloc: Global, short: &[(i32, u32)]) -> Result<Vec<(ItemId, Weigh
     Ok(entries)
 }
 
-fn buckets(alloc: Global, short: &[ShortBucket<'_>]) -> Result<Listed<Bucket>, AllocError> {
+fn buckets(alloc: Global, short: &[ShortBucket<'_>]) -> Result<Sequence<Bucket>, AllocError> {
     let mut buckets = Vec::new(alloc);
     for (id, name, kind_of, alg, items) in short {
         let name = Text::copy(alloc, name)?;
@@ -113,13 +113,13 @@ fn buckets(alloc: Global, short: &[ShortBucket<'_>]) -> Result<Listed<Bucket>, A
             name,
             kind_of: *kind_of,
             alg: *alg,
-            items: Listed::new(entries(alloc, items)?),
+            items: Sequence::new(entries(alloc, items)?),
         })?;
     }
-    Ok(Listed::new(buckets))
+    Ok(Sequence::new(buckets))
 }
 
-fn rules(alloc: Global, short: Short<'_>) -> Result<Listed<Rule>, AllocError> {
+fn rules(alloc: Global, short: Short<'_>) -> Result<Sequence<Rule>, AllocError> {
     let mut rules = Vec::new(alloc);
     for (id, name, steps) in short.rules {
         let name = Text::copy(alloc, name)?;
@@ -127,10 +127,10 @@ fn rules(alloc: Global, short: Short<'_>) -> Result<Listed<Rule>, AllocError> {
             id: *id,
             name,
             erasure: short.erasure,
-            steps: Listed::new(steps.to_vec(alloc)?),
+            steps: Sequence::new(steps.to_vec(alloc)?),
         })?;
     }
-    Ok(Listed::new(rules))
+    Ok(Sequence::new(rules))
 }
 
 /// Makes the draft that `short` writes.
@@ -151,7 +151,7 @@ pub fn generated(
     alloc: Global,
     short: Short<'_>,
     count: u32,
-    buckets: Listed<Bucket>,
+    buckets: Sequence<Bucket>,
 ) -> Result<MapDraft, AllocError> {
     let mut named = Vec::new(alloc);
     for id in 0..count {
@@ -185,6 +185,6 @@ pub fn bucket(
         name,
         kind_of,
         alg,
-        items: Listed::new(entries(alloc, items)?),
+        items: Sequence::new(entries(alloc, items)?),
     })
 }

@@ -7,7 +7,7 @@ use crush_map::limits::{
     BUCKET_LIMIT, DEVICE_LIMIT, ITEM_LIMIT, NUMBER_LIMIT, RULE_LIMIT, STEP_LIMIT, TYPE_LIMIT,
 };
 use crush_map::{
-    Bucket, Element, FaultCode, ItemId, Kind, Listed, MapDraft, Rule, Step, Text, Weight,
+    Bucket, Element, FaultCode, ItemId, Kind, MapDraft, Rule, Sequence, Step, Text, Weight,
 };
 use std::alloc::{AllocError, Global};
 use std::process::Abort;
@@ -48,7 +48,7 @@ fn numbered(
 }
 
 /// Makes buckets of no items, but the last, which has as many devices as a bucket may have.
-fn buckets(alloc: Global, counts: Counts) -> Result<Listed<Bucket>, AllocError> {
+fn buckets(alloc: Global, counts: Counts) -> Result<Sequence<Bucket>, AllocError> {
     let mut buckets = Vec::new(alloc);
     for (number, name) in numbered(alloc, 'b', counts.buckets, counts.wrong)? {
         let mut items = Vec::new(alloc);
@@ -65,24 +65,24 @@ fn buckets(alloc: Global, counts: Counts) -> Result<Listed<Bucket>, AllocError> 
             name,
             kind_of: 1,
             alg: Kind::Uniform,
-            items: Listed::new(items),
+            items: Sequence::new(items),
         })?;
     }
-    Ok(Listed::new(buckets))
+    Ok(Sequence::new(buckets))
 }
 
 /// Makes rules of as many steps as a rule may have.
-fn rules(alloc: Global, counts: Counts) -> Result<Listed<Rule>, AllocError> {
+fn rules(alloc: Global, counts: Counts) -> Result<Sequence<Rule>, AllocError> {
     let mut rules = Vec::new(alloc);
     for (id, name) in numbered(alloc, 'r', counts.rules, counts.wrong)? {
         rules.push(Rule {
             id,
             name,
             erasure: true,
-            steps: Listed::new(vec![in alloc; Step::Emit; STEP_LIMIT]?),
+            steps: Sequence::new(vec![in alloc; Step::Emit; STEP_LIMIT]?),
         })?;
     }
-    Ok(Listed::new(rules))
+    Ok(Sequence::new(rules))
 }
 
 fn full(alloc: Global, counts: Counts) -> Result<MapDraft, AllocError> {

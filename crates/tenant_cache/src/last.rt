@@ -7,7 +7,7 @@ ghost use Rattle.crush_pool.specs.Placers.{PoolOnMap};
 
 use crate::bound::Bound;
 use crate::kept::KeptTenants;
-use crush_map::Listed;
+use crush_map::Sequence;
 use crush_pool::{Content, Placer};
 use crush_report::{MoveRow, Touches, UpLists, moves_from};
 use crush_text::canonical_texts_are_read;
@@ -116,7 +116,7 @@ impl Last<Touches> {
 
     /// Finds the groups that a device can touch. `None` where nothing is kept, or an allocation
     /// failed.
-    pub(crate) fn groups_of(&self, alloc: Global, device: u32) -> Option<Listed<u32>>
+    pub(crate) fn groups_of(&self, alloc: Global, device: u32) -> Option<Sequence<u32>>
         ensures { IfSome result (λ groups. (p : PoolOnMap) → IsMap p.map → self.now.content ≡ content_of p → Some groups ≡ impact p.map p.states p.pool p.pairs device) }
     {
         let Some(touches) = &self.found else {
@@ -141,7 +141,7 @@ impl Last<UpLists> {
 
     /// Finds the groups that move from the map of the content to that of the placer `to`, of the
     /// same pool. `None` where no lists are kept, or an allocation failed.
-    pub(crate) fn moves_to(&self, alloc: Global, to: &Placer<'_>) -> Option<Listed<MoveRow>>
+    pub(crate) fn moves_to(&self, alloc: Global, to: &Placer<'_>) -> Option<Sequence<MoveRow>>
         ensures rows { IfSome result (λ rows. (p : PoolOnMap) → IsMap p.map → self.now.content ≡ content_of p → p.states ≡ to.now.states → p.pool ≡ to.now.pool → p.pairs ≡ to.now.pairs
             → Some rows ≡ moves p.map to.now.map p.states p.pool p.pairs) }
         ensures gained { IfSome result (λ rows. gained_in rows ≤ SIZE_LIMIT * GROUP_LIMIT) }

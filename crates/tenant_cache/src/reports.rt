@@ -13,7 +13,7 @@ ghost use Rattle.tenant_reports.specs.Moves.{rows_of};
 use crate::bound::Bound;
 use crate::kept::KeptTenants;
 use crate::last::{Last, is_left, is_of_tenant, renew};
-use crush_map::Listed;
+use crush_map::Sequence;
 use crush_pool::{Content, Placer};
 use crush_report::{MoveRow, Touches, UpLists};
 use std::alloc::Global;
@@ -65,7 +65,7 @@ fn find_touched(
     content: Content,
     placer: &Placer<'_>,
     device: u32,
-) -> Option<Listed<u32>>
+) -> Option<Sequence<u32>>
     requires content { content ≡ content_of placer.now }
     requires map { IsMap placer.now.map }
     ensures { IfSome result (λ groups. Some groups ≡ impact placer.now.map placer.now.states placer.now.pool placer.now.pairs device) }
@@ -87,7 +87,7 @@ fn find_moved(
     content: Content,
     from: &Placer<'_>,
     to: &Placer<'_>,
-) -> Option<Listed<MoveRow>>
+) -> Option<Sequence<MoveRow>>
     requires content { content ≡ content_of from.now }
     requires map { IsMap from.now.map }
     requires states { from.now.states ≡ to.now.states }
@@ -111,7 +111,7 @@ pub(crate) fn touched(
     inventory: &Inventory,
     pool: &TenantPool,
     device: u64,
-) -> Option<Listed<u32>>
+) -> Option<Sequence<u32>>
     ensures { IfSome result (λ groups. groups_of inventory.now pool.now device ≡ Ok groups) }
 {
     let version = inventory.version(inventory.newest())?;
@@ -134,7 +134,7 @@ pub(crate) fn moved(
     pool: &TenantPool,
     from: u64,
     to: u64,
-) -> Option<Listed<MoveRow>>
+) -> Option<Sequence<MoveRow>>
     ensures rows { IfSome result (λ rows. rows_of inventory.now pool.now from to ≡ Ok rows) }
     ensures gained { IfSome result (λ rows. gained_in rows ≤ SIZE_LIMIT * GROUP_LIMIT) }
 {

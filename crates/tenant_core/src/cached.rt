@@ -5,7 +5,7 @@ ghost use Rattle.tenant_core.specs.Cached.{HasRoom, cached_reply};
 ghost use Rattle.tenant_messages.specs.Reply.{reply, success};
 
 use crate::queries::Query;
-use crush_map::Listed;
+use crush_map::Sequence;
 use crush_pool::Placement;
 use crush_report::MoveRow;
 use std::alloc::{AllocError, Global};
@@ -36,10 +36,10 @@ pub enum CachedAnswer<'q> {
     /// The name of an object, its group, and the placement of that.
     Located(&'q ObjectName, u32, Rc<Placement>),
     /// The id of a pool, the number of a device, and the groups of the pool that it can touch.
-    Touched(u32, u64, Listed<u32>),
+    Touched(u32, u64, Sequence<u32>),
     /// The id of a pool, the numbers of two versions, and the rows of the pool's groups that move
     /// from the first to the second.
-    Moved(u32, u64, u64, Listed<MoveRow>),
+    Moved(u32, u64, u64, Sequence<MoveRow>),
 }
 
 impl Query {

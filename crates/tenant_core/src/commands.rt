@@ -12,7 +12,7 @@ ghost use Rattle.tenant_state.specs.Made.{made_of};
 ghost use Rattle.tenant_state.specs.State.{TenantState};
 ghost use Rattle.tenant_state.specs.Valid.{IsInventory, IsMade};
 
-use crush_map::{Listed, Text};
+use crush_map::{Sequence, Text};
 use crush_pool::{DeviceChange, Pair, Pool};
 use crush_text::texts_are_read_as_they_say;
 use std::alloc::{AllocError, Global};
@@ -29,11 +29,11 @@ pub enum Order {
     /// A version with the map of this text.
     ImportMap(Text),
     /// These changes of the states of devices.
-    ChangeDevices(Listed<DeviceChange>),
+    ChangeDevices(Sequence<DeviceChange>),
     /// This pool.
     CreatePool(Pool),
     /// These pairs as all the exceptions of the pool with this id.
-    SetExceptions(u32, Listed<Pair>),
+    SetExceptions(u32, Sequence<Pair>),
     /// The removal of the pool with this id, with its exceptions.
     RemovePool(u32),
 }

@@ -3,10 +3,10 @@
 ghost use Rattle.std.specs.Prelude.{◌≡◌};
 ghost use Rattle.tenant_messages.specs.CallParts.{call_of};
 
-use crush_map::{Listed, Text};
+use crush_map::{Sequence, Text};
 
 /// Bytes that a contract sees as a list.
-pub type Bytes = Listed<u8>;
+pub type Bytes = Sequence<u8>;
 
 /// A method, a path and a body, none of them checked. The path is the request target (RFC 9112) as
 /// received: nothing is decoded.

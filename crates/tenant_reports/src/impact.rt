@@ -9,7 +9,7 @@ ghost use Rattle.tenant_messages.specs.Reply.{natural};
 ghost use Rattle.tenant_messages.specs.Slots.{list_json};
 ghost use Rattle.tenant_reports.specs.Impact as spec;
 
-use crush_map::{Device, Listed};
+use crush_map::{Device, Sequence};
 use crush_report::impact_with;
 use serde_json::{Value, json};
 use std::alloc::{AllocError, Global};
@@ -37,7 +37,7 @@ fn groups_of(
     inventory: &Inventory,
     pool: &TenantPool,
     number: u64,
-) -> Result<Listed<u32>, Refusal>
+) -> Result<Sequence<u32>, Refusal>
     ensures { Gives (λ groups. groups) result (spec.groups_of inventory.now pool.now number) }
 {
     let placer = inventory.on_newest(pool)?;

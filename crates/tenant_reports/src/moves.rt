@@ -12,7 +12,7 @@ ghost use Rattle.tenant_reports.specs.Moves as spec;
 ghost use Rattle.tenant_reports.specs.Private.Pieces.{head_text};
 
 use crate::rows::{ReportRow, push_rows};
-use crush_map::Listed;
+use crush_map::Sequence;
 use crush_report::{MoveRow, gained_in, moves_with};
 use std::alloc::{AllocError, Global};
 use tenant_messages::{Problem, Refusal, Reply, done, push_number, push_slots};
@@ -29,7 +29,7 @@ fn rows_of(
     pool: &TenantPool,
     from: u64,
     to: u64,
-) -> Result<Listed<MoveRow>, Refusal>
+) -> Result<Sequence<MoveRow>, Refusal>
     ensures rows { Gives (λ rows. rows) result (spec.rows_of inventory.now pool.now from to) }
     ensures gained { IfOk result (λ rows. gained_in rows ≤ SIZE_LIMIT * GROUP_LIMIT) }
 {

@@ -15,7 +15,7 @@ ghost use Rattle.tenant_resources.specs.Orders.{accepted_of};
 use crate::accepted::Acceptance;
 use crush_choose::FULL;
 use crush_map::limits::NUMBER_LIMIT;
-use crush_map::{Listed, Text};
+use crush_map::{Sequence, Text};
 use crush_pool::{DeviceChange, DeviceState, are_valid_changes};
 use serde_json::{Value, json};
 use std::alloc::{AllocError, Global};
@@ -74,7 +74,7 @@ fn changes(alloc: Global, values: &[Value]) -> Result<Vec<DeviceChange>, Refusal
 
 /// Reads the request number and the changes that a body's value says. The problem is `BadRequest`,
 /// exactly where the value doesn't have the form (`IsDevicesBody`).
-pub fn read_changes(alloc: Global, value: &Value) -> Result<(Text, Listed<DeviceChange>), Refusal>
+pub fn read_changes(alloc: Global, value: &Value) -> Result<(Text, Sequence<DeviceChange>), Refusal>
     ensures { Reads (λ asked. asked) result (spec.changes_of (view value.now)) }
 {
     if !has_keys(value, 2) {
@@ -87,7 +87,7 @@ pub fn read_changes(alloc: Global, value: &Value) -> Result<(Text, Listed<Device
         .ok_or(Problem::BadRequest)?;
     let found = changes(alloc, values)?;
     if are_valid_changes(&found) {
-        Ok((Text::copy(alloc, number)?, Listed::new(found)))
+        Ok((Text::copy(alloc, number)?, Sequence::new(found)))
     } else {
         Err(Refusal::Problem(Problem::BadRequest))
     }
@@ -187,7 +187,7 @@ pub fn change_devices(
     }
     let states = all_changed(alloc, inventory.devices(), changes)?;
     Ok(Acceptance {
-        made: Product::States(Listed::new(states)),
+        made: Product::States(Sequence::new(states)),
         status: SuccessStatus::Done,
         body: devices_reply(alloc, changes.len(), inventory)?,
     })

@@ -14,7 +14,7 @@ ghost use Rattle.tenant_resources.specs.Orders.{accepted_of};
 
 use crate::accepted::Acceptance;
 use crate::devices::has_device;
-use crush_map::{Listed, Text};
+use crush_map::{Sequence, Text};
 use crush_pool::limits::{GROUP_LIMIT, POOL_ID_LIMIT};
 use crush_pool::{Exceptions, Pair, SharedExceptions, are_pairs};
 use serde_json::{Value, json};
@@ -57,7 +57,10 @@ fn pairs(alloc: Global, values: &[Value]) -> Result<Vec<Pair>, Refusal>
 
 /// Reads the request number, the id of the pool and the pairs that a body's value says. The problem
 /// is `BadRequest`, exactly where the value doesn't have the form (`IsExceptionsBody`).
-pub fn read_exceptions(alloc: Global, value: &Value) -> Result<(Text, (u32, Listed<Pair>)), Refusal>
+pub fn read_exceptions(
+    alloc: Global,
+    value: &Value,
+) -> Result<(Text, (u32, Sequence<Pair>)), Refusal>
     ensures { Reads (λ asked. asked) result (spec.exceptions_of (view value.now)) }
 {
     if !has_keys(value, 3) {
@@ -71,7 +74,7 @@ pub fn read_exceptions(alloc: Global, value: &Value) -> Result<(Text, (u32, List
         .ok_or(Problem::BadRequest)?;
     let found = pairs(alloc, values)?;
     if id >= 1 && are_pairs(GROUP_LIMIT, &found) {
-        Ok((Text::copy(alloc, number)?, (id, Listed::new(found))))
+        Ok((Text::copy(alloc, number)?, (id, Sequence::new(found))))
     } else {
         Err(Refusal::Problem(Problem::BadRequest))
     }

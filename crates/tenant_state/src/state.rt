@@ -7,7 +7,7 @@ use crate::receipts::{Receipt, Receipts};
 use crate::size::{INVENTORY_BYTES, plus};
 use crate::version::Version;
 use crate::versions::Versions;
-use crush_map::{CrushMap, Listed, Text};
+use crush_map::{CrushMap, Sequence, Text};
 use crush_pool::{Content, DeviceState, Placer, Pool, SharedExceptions, rule_with_id};
 use std::alloc::{AllocError, Global};
 use std::marker::Model;
@@ -22,7 +22,7 @@ pub enum Product {
     /// One more version.
     Version(Rc<Version>),
     /// These states of devices, each in place of the one that was stored of the same device.
-    States(Listed<DeviceState>),
+    States(Sequence<DeviceState>),
     /// One more pool, with no exceptions.
     Pool(Rc<Pool>),
     /// The pool with this id has these exceptions, and no others.
