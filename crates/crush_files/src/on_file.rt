@@ -13,7 +13,7 @@ use std::alloc::AllocError;
 use std::io::{Read, Write};
 use std::num::NonZeroUsize;
 use std::rt::HostRuntime;
-use tenant_files::{Closing, FileRefusal, open_watched};
+use tenant_files::{FileRefusal, StoreEnd, open_watched};
 
 /// Plays a script on the tenants in the database file at `path`, keeps the placements of
 /// `placements` groups, and returns how that ended, with the files that were given back. A file
@@ -32,7 +32,7 @@ pub fn script_on_file<S: Start, R: Read, W: Write>(
     placements: NonZeroUsize,
     reader: &mut R,
     writer: &mut W,
-) -> Result<(Result<ScriptEnd, AllocError>, Closing<FileFrom<S>>), FileRefusal<FileFrom<S>>>
+) -> Result<(Result<ScriptEnd, AllocError>, StoreEnd<FileFrom<S>>), FileRefusal<FileFrom<S>>>
     // Lines were served from the states that the file held to those that it holds now, also after
     // a crash, and what was written has the headline. Or nothing was served and written, and the
     // file holds the same states, also after a crash.

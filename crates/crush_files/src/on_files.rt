@@ -9,7 +9,7 @@ use sqlite_disk::Disk;
 use std::alloc::{AllocError, Global};
 use std::io::{Read, Write};
 use std::num::NonZeroUsize;
-use tenant_files::{Closing, FileFault, close_ready, ready_over};
+use tenant_files::{FileFault, StoreEnd, close_ready, ready_over};
 use tenant_store::{Store, Watch};
 
 /// Plays a script on the tenants of a store over a database file, keeps the placements of
@@ -24,7 +24,7 @@ pub fn script_on_files<D: Disk + Drop, F: Watch + Drop, R: Read, W: Write>(
     placements: NonZeroUsize,
     reader: &mut R,
     writer: &mut W,
-) -> (Result<ScriptEnd, AllocError>, Closing<D>)
+) -> (Result<ScriptEnd, AllocError>, StoreEnd<D>)
     requires works { store.1 ≡ false }
 
     // Lines were served from the states that the rows stood for to those that the file holds now,

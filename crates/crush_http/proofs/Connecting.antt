@@ -13,8 +13,8 @@ use Rattle.crush_http.specs.Headers.{bytes}
 use Rattle.crush_http.specs.Messages.{Message, MessageAt, message_of, calls_of, Stop, input_ended, refused, last_served, read_failed, write_failed, HasMessages, GoesOn, IsHalf, IsRejected}
 use Rattle.crush_http.specs.Serving.{due, EndsAs, Writes, LeavesUnread, ServesInput}
 use Rattle.crush_http.specs.Wire.{output, reply_wire, rejection_wire}
-use Rattle.crush_http.specs.declared.connection.Ending.{Ending}
-use Rattle.crush_http.specs.declared.connection.Ending.TheVariants.{WriteFault}
+use Rattle.crush_http.specs.declared.connection.ConnectionEnd.{ConnectionEnd}
+use Rattle.crush_http.specs.declared.connection.ConnectionEnd.TheVariants.{WriteFault}
 use Rattle.crush_http.specs.declared.limits.TheConstants.{MESSAGE_LIMIT}
 use Rattle.crush_http.specs.declared.rejection.Rejection.{Rejection}
 use Rattle.crush_http.specs.declared.request.MessagePlaces.{MessagePlaces}
@@ -61,7 +61,7 @@ due-append (read_failed unread) ms ns rs qs count = output-append ms ns rs qs co
 due-append write_failed ms ns rs qs count = output-append ms ns rs qs count
 
 -- what was held is written at the end, or a part of it
-pub finished : (e end : Ending) (stop : Stop) (a b c d : Option (List ℕ)) (held now xs more : List ℕ) → AppendsUpTo held a b xs → EndsHeld e held now b c stop more
+pub finished : (e end : ConnectionEnd) (stop : Stop) (a b c d : Option (List ℕ)) (held now xs more : List ℕ) → AppendsUpTo held a b xs → EndsHeld e held now b c stop more
     → ((end ≡ e) × Appends c d now) ⊎ ((end ≡ WriteFault) × AppendsPart c d now) → Writes end stop (xs ++ more) a d
 finished e end stop a b c d held now xs more first ends (inl whole) =
     inl (subst (EndsAs stop) (sym whole.0) ends.0, up_to_written a c d now (xs ++ more) (up_to_on a b c held now xs more first ends.1) whole.1)
@@ -69,7 +69,7 @@ finished e end stop a b c d held now xs more first ends (inr part) =
     inr (part.0, part_written a c d now (xs ++ more) (up_to_on a b c held now xs more first ends.1) part.1)
 
 -- a write failed before
-pub cut : (end : Ending) (stop : Stop) (a b c : Option (List ℕ)) (held xs more : List ℕ) → AppendsUpTo held a b xs → EndsCut held b c stop more → end ≡ WriteFault → Writes end stop (xs ++ more) a c
+pub cut : (end : ConnectionEnd) (stop : Stop) (a b c : Option (List ℕ)) (held xs more : List ℕ) → AppendsUpTo held a b xs → EndsCut held b c stop more → end ≡ WriteFault → Writes end stop (xs ++ more) a c
 cut end stop a b c held xs more first ends e = inr (e, part_on a b c held xs more first ends)
 
 -- ---- the messages so far
@@ -127,7 +127,7 @@ reached_one Meets Then One most buffer rest held now a b c from mid to first rea
     }
 
 -- the end
-pub reached_end : (Meets Then Last : List Call → List Reply → Type 0) (most : ℕ) (buffer held : List ℕ) (a b c from mid to : Option (List ℕ)) (e : Ending) (Holds : Stop → List ℕ → Type 0)
+pub reached_end : (Meets Then Last : List Call → List Reply → Type 0) (most : ℕ) (buffer held : List ℕ) (a b c from mid to : Option (List ℕ)) (e : ConnectionEnd) (Holds : Stop → List ℕ → Type 0)
     → Reached Meets most buffer held a b from mid → EndsOn Last most buffer b c Holds → ((cs ds : List Call) (rs qs : List Reply) → Meets cs rs → Last ds qs → Then (cs ++ ds) (rs ++ qs))
     → ((stop : Stop) (xs more : List ℕ) → AppendsUpTo held from mid xs → Holds stop more → Writes e stop (xs ++ more) from to) → OfInput a (λ input. ServesInput Then input c from to e)
 reached_end Meets Then Last most buffer held a b c from mid to e Holds first end join writes = record {

@@ -22,7 +22,7 @@ use tenant_service::Service;
 
 /// How a connection ended.
 #[derive(Clone, Copy, Debug, PartialEq, Eq)]
-pub enum Ending {
+pub enum ConnectionEnd {
     /// The input ended, or the last message was served, and all replies were written.
     Closed,
     /// What came was no message. All replies were written, and then the one that says so.
@@ -37,7 +37,7 @@ pub enum Ending {
 enum Turn {
     Next,
     /// The connection ends so once what is held is written.
-    Ended(Ending),
+    Ended(ConnectionEnd),
     /// A write failed, and no more is written.
     Cut,
 }
@@ -103,10 +103,10 @@ fn serve_one<T: TenantStore, R: Read, W: Write>(
             if !put_rejection(&mut buffers.held, writer, reason) {
                 return Turn::Cut;
             }
-            return Turn::Ended(Ending::Bad);
+            return Turn::Ended(ConnectionEnd::Bad);
         }
-        Incoming::Ended => return Turn::Ended(Ending::Closed),
-        Incoming::Fault => return Turn::Ended(Ending::ReadFault),
+        Incoming::Ended => return Turn::Ended(ConnectionEnd::Closed),
+        Incoming::Fault => return Turn::Ended(ConnectionEnd::ReadFault),
     };
     let bytes = buffers.read.bytes();
     let used = request.used(bytes.len());
@@ -117,20 +117,21 @@ fn serve_one<T: TenantStore, R: Read, W: Write>(
         return Turn::Cut;
     }
     if last {
-        Turn::Ended(Ending::Closed)
+        Turn::Ended(ConnectionEnd::Closed)
     } else {
         Turn::Next
     }
 }
 
-/// Writes what is held, and returns `ended`, or `Ending::WriteFault` if not all of it was written.
-fn finish<W: Write>(held: &mut HeldBytes, writer: &mut W, ended: Ending) -> Ending
-    ensures { ((result ≡ ended) × Appends (W.contents writer.old) (W.contents writer.new) held.old) ⊎ ((result ≡ Ending.WriteFault) × AppendsPart (W.contents writer.old) (W.contents writer.new) held.old) }
+/// Writes what is held, and returns `ended`, or `ConnectionEnd::WriteFault` if not all of it was
+/// written.
+fn finish<W: Write>(held: &mut HeldBytes, writer: &mut W, ended: ConnectionEnd) -> ConnectionEnd
+    ensures { ((result ≡ ended) × Appends (W.contents writer.old) (W.contents writer.new) held.old) ⊎ ((result ≡ ConnectionEnd.WriteFault) × AppendsPart (W.contents writer.old) (W.contents writer.new) held.old) }
 {
     if held.flush(writer) {
         ended
     } else {
-        Ending::WriteFault
+        ConnectionEnd::WriteFault
     }
 }
 
@@ -140,7 +141,7 @@ fn serve_all<T: TenantStore, R: Read, W: Write>(
     service: &mut Service<T>,
     reader: &mut R,
     writer: &mut W,
-) -> Ending
+) -> ConnectionEnd
     requires unused { buffers.old.read ≡ [] }
     requires empty { buffers.old.held ≡ [] }
     ensures served { OfInput (R.remaining reader.old)
@@ -153,7 +154,7 @@ fn serve_all<T: TenantStore, R: Read, W: Write>(
         match serve_one(buffers, service, reader, writer, most) {
             Turn::Next => most -= 1,
             Turn::Ended(ended) => return finish(&mut buffers.held, writer, ended),
-            Turn::Cut => return Ending::WriteFault,
+            Turn::Cut => return ConnectionEnd::WriteFault,
         }
     }
 }
@@ -165,7 +166,7 @@ pub fn serve_with<T: TenantStore, R: Read, W: Write>(
     service: &mut Service<T>,
     reader: &mut R,
     writer: &mut W,
-) -> Ending
+) -> ConnectionEnd
     ensures served { OfInput (R.remaining reader.old)
         (λ input. ServesInput (λ calls replies. T.is_honest service.new → ServesSession (T.latched service.old) (T.latched service.new) (T.has_state service.old) (T.has_state service.new) (T.may_leave service.new) calls replies) input (R.remaining reader.new) (W.contents writer.old) (W.contents writer.new) result) }
     ensures rests { T.latched service.old ≡ true → service.new ≡ service.old }
@@ -188,7 +189,7 @@ pub fn serve<T: TenantStore, R: Read, W: Write>(
     service: &mut Service<T>,
     reader: &mut R,
     writer: &mut W,
-) -> Result<Ending, AllocError>
+) -> Result<ConnectionEnd, AllocError>
     // The messages of the input were served up to a stop: the headline holds of their calls and the
     // replies, and these are a sound session, which leaves what it may leave. What was written is
     // the wire form of these replies, in order, and of the one to what is no message, and nothing

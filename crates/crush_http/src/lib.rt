@@ -17,7 +17,7 @@ mod request;
 mod wire;
 
 pub use buffers::Buffers;
-pub use connection::{Ending, serve, serve_with};
+pub use connection::{ConnectionEnd, serve, serve_with};
 pub use rejection::Rejection;
 pub use tenant_core::{Bytes, Call, CallParts, Reply};
 pub use tenant_service::{MemoryStore, Service, SessionEnd};

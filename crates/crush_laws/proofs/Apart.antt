@@ -4,7 +4,7 @@ use Rattle.std.proofs.lemmas.List.{length-append, length-map}
 use Rattle.std.specs.List.{All}
 use Rattle.crush_server.specs.crush_http.specs.Messages.{calls_of}
 use Rattle.crush_server.specs.crush_http.specs.Serving.{ServesInput}
-use Rattle.crush_server.specs.crush_http.specs.declared.connection.Ending.{Ending}
+use Rattle.crush_server.specs.crush_http.specs.declared.connection.ConnectionEnd.{ConnectionEnd}
 use Rattle.crush_server.specs.Clients.{Clients, ServesClients, ServesEach, all_sent}
 use Rattle.crush_laws.specs.Served.{AreJust, Client, IsServed}
 use Rattle.tenant_core.specs.tenant_messages.specs.declared.call.Call.{Call}

@@ -1,7 +1,7 @@
 -- Clients that were served, one by one.
 use Rattle.std.specs.Prelude.{ℕ, ◌≡◌, List, [], Option, Some, None}
 use Rattle.crush_server.specs.crush_http.specs.Serving.{ServesInput}
-use Rattle.crush_server.specs.crush_http.specs.declared.connection.Ending.{Ending}
+use Rattle.crush_server.specs.crush_http.specs.declared.connection.ConnectionEnd.{ConnectionEnd}
 use Rattle.tenant_core.specs.tenant_messages.specs.declared.call.Call.{Call}
 use Rattle.tenant_core.specs.tenant_messages.specs.declared.reply.Reply.{Reply}
 
@@ -16,7 +16,7 @@ pub record Client : Type 0 where
 -- is what is due with just these replies
 abbrev pub IsServed : Client → Type 0
 IsServed client =
-    (ended : Ending) × ServesInput (λ calls replies. (calls ≡ client.calls) × (replies ≡ client.replies)) client.input None (Some []) (Some client.output) ended
+    (ended : ConnectionEnd) × ServesInput (λ calls replies. (calls ≡ client.calls) × (replies ≡ client.replies)) client.input None (Some []) (Some client.output) ended
 
 -- these calls and replies, and no others
 abbrev pub AreJust : List Call → List Reply → List Call → List Reply → Type 0

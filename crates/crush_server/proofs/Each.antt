@@ -9,7 +9,7 @@ use Rattle.tenant_service.specs.Input.{OfInput}
 use Rattle.tenant_service.specs.Writing.{AppendsPart}
 use Rattle.crush_http.specs.Messages.{Stop, input_ended, refused, last_served, read_failed, write_failed, calls_of}
 use Rattle.crush_http.specs.Serving.{EndsAs, LeavesUnread, due, ServesInput, Writes}
-use Rattle.crush_http.specs.declared.connection.Ending.{Ending}
+use Rattle.crush_http.specs.declared.connection.ConnectionEnd.{ConnectionEnd}
 use Rattle.crush_server.specs.Clients.{Clients, ServesClients, ServesEach, after_accepts, after_answers, all_sent, next_sent}
 
 abbrev Says : Type 1
@@ -26,7 +26,7 @@ some_none x h = subst is_none (sym h) tt
 
 -- ---- one connection
 
-input_map : (M N : Says) (i : List ℕ) (left from to : Option (List ℕ)) (e : Ending) → ((cs : List Call) (rs : List Reply) → M cs rs → N cs rs)
+input_map : (M N : Says) (i : List ℕ) (left from to : Option (List ℕ)) (e : ConnectionEnd) → ((cs : List Call) (rs : List Reply) → M cs rs → N cs rs)
     → ServesInput M i left from to e → ServesInput N i left from to e
 input_map M N i left from to e k s = record {
   messages = s.messages;
@@ -152,7 +152,7 @@ written_whole from None bytes known h = absurd (subst (λ f. Appends f None byte
 written_whole from (Some ys) bytes known h = ap Some (subst (λ f. Appends f (Some ys) bytes) known h)
 
 -- what was written, as the output of a client
-as_output : (e : Ending) (stop : Stop) (bytes : List ℕ) (from to : Option (List ℕ)) → Writes e stop bytes from to
+as_output : (e : ConnectionEnd) (stop : Stop) (bytes : List ℕ) (from to : Option (List ℕ)) → Writes e stop bytes from to
     → (o : List ℕ) × Writes e stop bytes (Some []) (Some o) × (from ≡ Some [] → to ≡ Some o)
 as_output e stop bytes from to (inl h) = (bytes, inl (h.0, refl), λ known. written_whole from to bytes known h.1)
 as_output e stop bytes from to (inr h) = (
@@ -191,7 +191,7 @@ known_client (Some x) b c reads from to input o taken given closed same written 
       (subst (λ (y : Option Clients). IfSome y (λ z. IfSome to (λ output. c ≡ Some (after_answers (output ∷ []) z)))) taken closed),
 )
 
-pub client_served : (M : Says) (a b c : Option Clients) (reads left from to : Option (List ℕ)) (e : Ending) → IfSome a (λ x. b ≡ Some (after_accepts 1 x))
+pub client_served : (M : Says) (a b c : Option Clients) (reads left from to : Option (List ℕ)) (e : ConnectionEnd) → IfSome a (λ x. b ≡ Some (after_accepts 1 x))
     → IfSome a (λ x. IsSome (next_sent x.coming) × (reads ≡ next_sent x.coming) × (from ≡ Some []))
     → IfSome b (λ y. IfSome to (λ output. c ≡ Some (after_answers (output ∷ []) y))) → OfInput reads (λ input. ServesInput M input left from to e) → ServesClients M 1 a c
 client_served M a b c reads left from to e taken given closed served =

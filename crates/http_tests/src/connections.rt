@@ -3,7 +3,7 @@
 use crate::same::assert_same_at;
 use crate::streams::Stream;
 use common_tests::streams::{Cuts, MANY, Reader, Writer};
-use crush_http::{Buffers, Ending, MemoryStore, Service, serve, serve_with};
+use crush_http::{Buffers, ConnectionEnd, MemoryStore, Service, serve, serve_with};
 use std::alloc::Global;
 use std::io::{Read, Write};
 use std::process::Abort;
@@ -21,7 +21,7 @@ pub(crate) fn end_of<T: TenantStore, R: Read, W: Write>(
     service: &mut Service<T>,
     reader: &mut R,
     writer: &mut W,
-) -> Ending {
+) -> ConnectionEnd {
     serve_with(buffers, service, reader, writer)
 }
 
@@ -32,7 +32,7 @@ fn end_alone<T: TenantStore, R: Read, W: Write>(
     service: &mut Service<T>,
     reader: &mut R,
     writer: &mut W,
-) -> Ending {
+) -> ConnectionEnd {
     serve(alloc, service, reader, writer).expect(rt, "no memory")
 }
 
@@ -46,7 +46,7 @@ pub(crate) fn connect_to<T: TenantStore>(
     cuts: Cuts,
     reads: usize,
     writes: usize,
-) -> (Ending, Vec<u8>) {
+) -> (ConnectionEnd, Vec<u8>) {
     let mut reader = Reader {
         rest: input,
         cuts,
@@ -67,7 +67,7 @@ pub(crate) fn connect(
     cuts: Cuts,
     reads: usize,
     writes: usize,
-) -> (Ending, Vec<u8>) {
+) -> (ConnectionEnd, Vec<u8>) {
     let mut service = new_service(rt, alloc);
     let mut reader = Reader {
         rest: input,

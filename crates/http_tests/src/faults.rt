@@ -5,7 +5,7 @@ use crate::same::{assert_at, assert_same, assert_same_at};
 use crate::streams::{REPLIES, STREAM};
 use common_tests::rows::created;
 use common_tests::streams::{Cuts, MANY};
-use crush_http::{Buffers, Ending};
+use crush_http::{Buffers, ConnectionEnd};
 use std::alloc::Global;
 use std::process::Abort;
 
@@ -39,7 +39,7 @@ fn connect(
     size: usize,
     reads: usize,
     writes: usize,
-) -> (Ending, Vec<u8>) {
+) -> (ConnectionEnd, Vec<u8>) {
     let mut service = new_service(rt, alloc);
     let cuts = Cuts::each(size);
     connect_to(alloc, buffers, &mut service, STREAM, cuts, reads, writes)
@@ -62,8 +62,8 @@ fn is_closed_after(
         &written.as_slice(),
         &replies,
     );
-    let is_closed = ended == Ending::Closed;
-    let is_fault = ended == Ending::ReadFault;
+    let is_closed = ended == ConnectionEnd::Closed;
+    let is_fault = ended == ConnectionEnd::ReadFault;
     assert_at(rt, [reads as u64, size as u64], is_closed || is_fault);
     is_closed
 }
@@ -101,8 +101,8 @@ fn written_after(
     let (ended, written) = connect(rt, alloc, buffers, size, MANY, writes);
     let is_front = REPLIES.starts_with(written.as_slice());
     assert_at(rt, [writes as u64, 0], is_front);
-    let is_closed = ended == Ending::Closed;
-    let is_fault = ended == Ending::WriteFault;
+    let is_closed = ended == ConnectionEnd::Closed;
+    let is_fault = ended == ConnectionEnd::WriteFault;
     assert_at(rt, [writes as u64, 1], is_closed || is_fault);
     (written.len(), is_closed)
 }

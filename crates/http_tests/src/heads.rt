@@ -4,7 +4,7 @@ use crate::connections::{assert_replies, connect};
 use crate::same::assert_same_at;
 use crate::streams::{NO_PATH, Stream};
 use common_tests::streams::{Cuts, MANY};
-use crush_http::{Buffers, Ending};
+use crush_http::{Buffers, ConnectionEnd};
 use std::alloc::Global;
 use std::process::Abort;
 
@@ -17,20 +17,20 @@ const LENGTH: &[u8] =
 /// Bytes that are no head, two lengths, a length of eleven digits, and a transfer encoding, which
 /// is refused before a length past the limit.
 const REFUSED: [Stream; 4] = [
-    (b"GET  /x HTTP/1.1\r\n\r\n", Ending::Bad, BAD_REQUEST),
+    (b"GET  /x HTTP/1.1\r\n\r\n", ConnectionEnd::Bad, BAD_REQUEST),
     (
         b"GET /x HTTP/1.1\r\nContent-Length: 0\r\nContent-Length: 0\r\n\r\n",
-        Ending::Bad,
+        ConnectionEnd::Bad,
         BAD_REQUEST,
     ),
     (
         b"GET /x HTTP/1.1\r\nContent-Length: 12345678901\r\n\r\n",
-        Ending::Bad,
+        ConnectionEnd::Bad,
         BAD_REQUEST,
     ),
     (
         b"GET /x HTTP/1.1\r\nTransfer-Encoding: chunked\r\nContent-Length: 5242881\r\n\r\n",
-        Ending::Bad,
+        ConnectionEnd::Bad,
         LENGTH,
     ),
 ];
@@ -50,7 +50,7 @@ type Long = (
     &'static [u8],
     usize,
     &'static [u8],
-    Ending,
+    ConnectionEnd,
     &'static [u8],
 );
 
@@ -61,7 +61,7 @@ const AT_LIMITS: [Long; 4] = [
         b"A: b\r\n",
         32,
         b"\r\n",
-        Ending::Closed,
+        ConnectionEnd::Closed,
         NO_PATH,
     ),
     (
@@ -69,7 +69,7 @@ const AT_LIMITS: [Long; 4] = [
         b"A: b\r\n",
         33,
         b"\r\n",
-        Ending::Bad,
+        ConnectionEnd::Bad,
         BAD_REQUEST,
     ),
     (
@@ -77,7 +77,7 @@ const AT_LIMITS: [Long; 4] = [
         b"b",
         8_192 - 24,
         b"\r\n\r\n",
-        Ending::Closed,
+        ConnectionEnd::Closed,
         NO_PATH,
     ),
     (
@@ -85,7 +85,7 @@ const AT_LIMITS: [Long; 4] = [
         b"b",
         8_193 - 24,
         b"\r\n\r\n",
-        Ending::Bad,
+        ConnectionEnd::Bad,
         BAD_REQUEST,
     ),
 ];

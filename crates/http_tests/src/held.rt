@@ -5,7 +5,7 @@ use crate::same::{assert_same, assert_same_at};
 use crate::streams::{NO_PATH, REPLIES, STREAM};
 use common_tests::streams::{Cuts, MANY, Reader};
 use crush_http::limits::HELD_LIMIT;
-use crush_http::{Buffers, Ending};
+use crush_http::{Buffers, ConnectionEnd};
 use std::alloc::Global;
 use std::cell::Cell;
 use std::io::{self, ErrorKind, Read, Write};
@@ -62,7 +62,7 @@ impl Write for Recorder<'_> {
 /// What was seen of a connection: how it ended, and the bytes that were written.
 #[derive(Drop)]
 struct Record {
-    ended: Ending,
+    ended: ConnectionEnd,
     taken: Vec<u8>,
     /// The number of bytes that each write was given.
     lengths: Vec<usize>,
@@ -130,7 +130,7 @@ fn replies_are_written_before_a_read(rt: HostRuntime) {
     let input = three_messages(&rt, rt.alloc());
     let mut buffers = Buffers::new(rt.alloc()).expect(&rt, "no memory");
     let found = connect(&rt, rt.alloc(), &mut buffers, &input, FIRST_TWO, usize::MAX);
-    assert_same(&rt, &found.ended, &Ending::Closed);
+    assert_same(&rt, &found.ended, &ConnectionEnd::Closed);
     let all = REPLIES.len() + NO_PATH.len();
     assert_same(&rt, &found.seen.as_slice(), &&[0, REPLIES.len(), all][..]);
 }
@@ -166,7 +166,7 @@ fn no_write_follows_one_that_failed(rt: HostRuntime) {
     let input = three_messages(&rt, rt.alloc());
     let mut buffers = Buffers::new(rt.alloc()).expect(&rt, "no memory");
     let found = connect(&rt, rt.alloc(), &mut buffers, &input, FIRST_TWO, 150);
-    assert_same(&rt, &found.ended, &Ending::WriteFault);
+    assert_same(&rt, &found.ended, &ConnectionEnd::WriteFault);
     assert_same(&rt, &found.taken.as_slice(), &&REPLIES[..150]);
     assert_same(&rt, &found.lengths.len(), &2);
     assert_same(&rt, &found.seen.as_slice(), &&[0][..]);
@@ -179,7 +179,7 @@ fn a_connection_finds_nothing_of_the_last_one(rt: HostRuntime) {
     for room in [usize::MAX, 150, 0] {
         connect(&rt, rt.alloc(), &mut buffers, STREAM, whole, room);
         let found = connect(&rt, rt.alloc(), &mut buffers, ASKS, whole, usize::MAX);
-        assert_same_at(&rt, [room as u64, 0], &found.ended, &Ending::Closed);
+        assert_same_at(&rt, [room as u64, 0], &found.ended, &ConnectionEnd::Closed);
         assert_same_at(&rt, [room as u64, 1], &found.taken.as_slice(), &NO_PATH);
     }
 }
@@ -235,7 +235,7 @@ fn a_body_longer_than_what_is_held_is_written_at_once(rt: HostRuntime) {
         Cuts::each(20_000),
         usize::MAX,
     );
-    assert_same(&rt, &found.ended, &Ending::Closed);
+    assert_same(&rt, &found.ended, &ConnectionEnd::Closed);
     let mut long = 0;
     for length in found.lengths.as_slice() {
         long = long.max(*length);

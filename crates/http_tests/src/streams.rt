@@ -3,7 +3,7 @@
 use crate::connections::{assert_replies, connect, connect_to, new_service};
 use crate::same::assert_same_at;
 use common_tests::streams::{Cuts, MANY};
-use crush_http::{Buffers, Ending};
+use crush_http::{Buffers, ConnectionEnd};
 use std::alloc::Global;
 use std::process::Abort;
 
@@ -20,32 +20,32 @@ pub(crate) const NO_PATH: &[u8] =
     b"HTTP/1.1 404 Not Found\r\nContent-Length: 19\r\nContent-Type: application/json\r\n\r\n{\"error\":\"no_path\"}";
 
 /// The bytes of a connection, how it ends, and what is written to it.
-pub(crate) type Stream = (&'static [u8], Ending, &'static [u8]);
+pub(crate) type Stream = (&'static [u8], ConnectionEnd, &'static [u8]);
 
 const STREAMS: [Stream; 5] = [
-    (STREAM, Ending::Closed, REPLIES),
+    (STREAM, ConnectionEnd::Closed, REPLIES),
     // the third message has a body of the limit, which isn't whole
     (
         b"PUT /t/a HTTP/1.1\r\nHost: l\r\n\r\nGET /t/a HTTP/1.1\r\nHost: l\r\n\r\nPOST /t/a/test HTTP/1.1\r\nContent-Length: 5242880\r\n\r\n{\"ru",
-        Ending::Closed,
+        ConnectionEnd::Closed,
         REPLIES,
     ),
     // a body over the limit is refused by its length
     (
         b"PUT /t/a HTTP/1.1\r\nHost: l\r\n\r\nGET /t/a HTTP/1.1\r\nHost: l\r\n\r\nPOST /t/a/test HTTP/1.1\r\nContent-Length: 5242881\r\n\r\n{\"ru",
-        Ending::Bad,
+        ConnectionEnd::Bad,
         b"HTTP/1.1 201 Created\r\nContent-Length: 24\r\nContent-Type: application/json\r\n\r\n{\"epoch\":0,\"tenant\":\"a\"}HTTP/1.1 200 OK\r\nContent-Length: 59\r\nContent-Type: application/json\r\n\r\n{\"devices\":0,\"epoch\":0,\"pools\":0,\"tenant\":\"a\",\"versions\":0}HTTP/1.1 413 Payload Too Large\r\nContent-Length: 21\r\nContent-Type: application/json\r\nConnection: close\r\n\r\n{\"error\":\"too_large\"}",
     ),
     // a body is read, and the next message after it, which is the last one
     (
         b"POST /t/a/pick HTTP/1.1\r\ncontent-LENGTH: 104\r\nExpect: 100-continue\r\n\r\n{\"bucket\":{\"id\":-1,\"items\":[{\"item\":4,\"weight\":0},{\"item\":9,\"weight\":65536}],\"kind\":\"list\"},\"r\":0,\"x\":5}GET /x HTTP/1.1\r\nConnection: CLOSE\r\n\r\nGET /x HTTP/1.1\r\n\r\n",
-        Ending::Closed,
+        ConnectionEnd::Closed,
         b"HTTP/1.1 404 Not Found\r\nContent-Length: 21\r\nContent-Type: application/json\r\n\r\n{\"error\":\"no_tenant\"}HTTP/1.1 404 Not Found\r\nContent-Length: 19\r\nContent-Type: application/json\r\nConnection: close\r\n\r\n{\"error\":\"no_path\"}",
     ),
     // a connection of the older version ends after the reply
     (
         b"GET /x HTTP/1.0\r\n\r\nGET /x HTTP/1.1\r\n\r\n",
-        Ending::Closed,
+        ConnectionEnd::Closed,
         b"HTTP/1.1 404 Not Found\r\nContent-Length: 19\r\nContent-Type: application/json\r\nConnection: close\r\n\r\n{\"error\":\"no_path\"}",
     ),
 ];
@@ -66,7 +66,7 @@ fn assert_cut_at(rt: &impl Abort, alloc: Global, buffers: &mut Buffers, first: u
         later: 20_000,
     };
     let (ended, written) = connect_to(alloc, buffers, &mut service, STREAM, cuts, MANY, MANY);
-    assert_same_at(rt, [first as u64, 0], &ended, &Ending::Closed);
+    assert_same_at(rt, [first as u64, 0], &ended, &ConnectionEnd::Closed);
     assert_same_at(rt, [first as u64, 1], &written.as_slice(), &REPLIES);
 }
 
@@ -108,6 +108,6 @@ fn long_stream(rt: &impl Abort, alloc: Global) -> Vec<u8> {
 fn a_long_body_may_come_byte_by_byte(rt: HostRuntime) {
     let input = long_stream(&rt, rt.alloc());
     let (ended, written) = connect(&rt, rt.alloc(), &input, Cuts::each(1), MANY, MANY);
-    assert_same_at(&rt, [0, 0], &ended, &Ending::Closed);
+    assert_same_at(&rt, [0, 0], &ended, &ConnectionEnd::Closed);
     assert_same_at(&rt, [0, 1], &written.as_slice(), &PICKED);
 }

@@ -9,7 +9,7 @@ use common_tests::rows::{CREATION_OF_A, IMPORT_BY_A, Row, calls_of, check_reply}
 use common_tests::streams::{Cuts, MANY, Reader, Writer};
 use crush_app::{CheckEnd, ScriptEnd, check_run, script_run};
 use crush_http::{
-    Bytes, Call, CallParts, Ending, MemoryStore, Reply, Service, SessionEnd, laws, serve,
+    Bytes, Call, CallParts, ConnectionEnd, MemoryStore, Reply, Service, SessionEnd, laws, serve,
 };
 use sqlite::{Alter, Connection};
 use std::alloc::Global;
@@ -141,7 +141,7 @@ fn connections_have_their_call(rt: HostRuntime) -> Result<(), Fail> {
     let mut service = Service::in_memory(alloc)?;
     let mut writer = Writer::new(alloc, MANY);
     let ended = serve(alloc, &mut service, &mut reader_of(STREAM), &mut writer)?;
-    assert_same(&rt, &ended, &Ending::Closed);
+    assert_same(&rt, &ended, &ConnectionEnd::Closed);
     assert!(rt; writer.taken.as_slice() == REPLIES);
     Ok(())
 }

@@ -20,7 +20,7 @@ use tenant_store::Store;
 /// What a store over a database file gave back: the two files, and whether the log was copied into
 /// the database file.
 #[derive(Drop)]
-pub struct Closing<D: Disk> {
+pub struct StoreEnd<D: Disk> {
     /// Whether the log was copied. `Err`: it wasn't, and what was committed is in the file or in
     /// its log.
     pub copied: Result<(), FileFault>,
@@ -31,18 +31,18 @@ pub struct Closing<D: Disk> {
 ///
 /// `copied` is `Err(FileFault::Store)` where the file failed, and `Err(FileFault::NoMemory)` where
 /// an allocation failed.
-pub fn close_store<D: Disk + Drop>(store: Store<FileStore<D>>) -> Closing<D>
+pub fn close_store<D: Disk + Drop>(store: Store<FileStore<D>>) -> StoreEnd<D>
     ensures given { GivesBack store.0 result.copied result.files }
     ensures cause { IfErr result.copied (FailsToCopy store.0 result.files) }
     ensures honest { HasCleanDisk (file_state store.0) → IsHonest over_files store }
 {
     let conn = store.close();
     match conn.close_files() {
-        Ok(files) => Closing {
+        Ok(files) => StoreEnd {
             copied: Ok(()),
             files,
         },
-        Err((error, left)) => Closing {
+        Err((error, left)) => StoreEnd {
             copied: Err(fault_of(error)),
             files: left.close(),
         },
@@ -50,13 +50,13 @@ pub fn close_store<D: Disk + Drop>(store: Store<FileStore<D>>) -> Closing<D>
 }
 
 /// Gives back the files of a store. Nothing is copied.
-pub fn give_up<D: Disk + Drop>(store: Store<FileStore<D>>) -> Closing<D>
+pub fn give_up<D: Disk + Drop>(store: Store<FileStore<D>>) -> StoreEnd<D>
     ensures given { GivesBack store.0 result.copied result.files }
     ensures failed { result.copied ≡ Err FileFault.Store }
     ensures honest { HasCleanDisk (file_state store.0) → IsHonest over_files store }
 {
     let conn = store.close();
-    Closing {
+    StoreEnd {
         copied: Err(FileFault::Store),
         files: conn.into_store().close(),
     }

@@ -11,7 +11,7 @@ mod ready;
 mod refused;
 mod watch;
 
-pub use closing::{Closing, close_store};
+pub use closing::{StoreEnd, close_store};
 pub use fault::FileFault;
 pub use opening::open_watched;
 pub use ready::{READY_BYTES, ReadyStore, close_ready, ready_over};

@@ -7,7 +7,7 @@ ghost use Rattle.tenant_store.specs.Shown.{IsHonest};
 ghost use Rattle.tenant_files.specs.Closed.{GivesBack};
 ghost use Rattle.tenant_files.specs.Closing.{FailsToCopy};
 
-use crate::closing::{Closing, close_store, give_up};
+use crate::closing::{StoreEnd, close_store, give_up};
 use crate::fault::FileFault;
 use sqlite::FileStore;
 use sqlite_disk::Disk;
@@ -36,7 +36,7 @@ pub fn ready_over<D: Disk + Drop, F: Watch + Drop>(
     store: Store<FileStore<D>>,
     watch: F,
     placements: NonZeroUsize,
-) -> Result<ReadyStore<D, F>, Closing<D>>
+) -> Result<ReadyStore<D, F>, StoreEnd<D>>
     ensures made { IfOk result (λ ready. ready ≡ ((store, watch), false)) }
     ensures given { IfErr result (λ closed. GivesBack store.0 closed.copied closed.files) }
     ensures cause { IfErr result (λ closed. IfErr closed.copied (FailsToCopy store.0 closed.files)) }
@@ -50,7 +50,7 @@ pub fn ready_over<D: Disk + Drop, F: Watch + Drop>(
 }
 
 /// Closes the file of a ready store. Nothing is copied where the store failed for good.
-pub fn close_ready<D: Disk + Drop, F: Watch + Drop>(ready: ReadyStore<D, F>) -> Closing<D>
+pub fn close_ready<D: Disk + Drop, F: Watch + Drop>(ready: ReadyStore<D, F>) -> StoreEnd<D>
     ensures given { GivesBack ready.0.0.0 result.copied result.files }
     ensures failed { (ready.0.0.1 || ready.1) ≡ true → result.copied ≡ Err FileFault.Store }
     ensures cause { (ready.0.0.1 || ready.1) ≡ false → IfErr result.copied (FailsToCopy ready.0.0.0 result.files) }

@@ -10,7 +10,7 @@ use Rattle.tenant_service.specs.Writing.{AppendsPart, AppendsUpTo}
 use Rattle.crush_http.specs.Messages.{Message, MessageAt, Stop, HasMessages, calls_of}
 use Rattle.crush_http.specs.Serving.{due, EndsAs, LeavesUnread}
 use Rattle.crush_http.specs.Wire.{reply_wire}
-use Rattle.crush_http.specs.declared.connection.Ending.{Ending}
+use Rattle.crush_http.specs.declared.connection.ConnectionEnd.{ConnectionEnd}
 use Rattle.crush_http.specs.declared.connection.Turn.{Turn}
 use Rattle.crush_http.specs.declared.connection.Turn.TheVariants as turn
 
@@ -60,7 +60,7 @@ pub record EndsOn (Meets : List Call → List Reply → Type 0) (most : ℕ) (th
   pub leaves : LeavesUnread stop new
 
 -- the connection ends so once what is held now is written; what is due came after what was held
-abbrev pub EndsHeld : Ending → List ℕ → List ℕ → Option (List ℕ) → Option (List ℕ) → Stop → List ℕ → Type 0
+abbrev pub EndsHeld : ConnectionEnd → List ℕ → List ℕ → Option (List ℕ) → Option (List ℕ) → Stop → List ℕ → Type 0
 EndsHeld ended held now from to stop bytes = EndsAs stop ended × AppendsUpTo now from to (held ++ bytes)
 
 -- a write failed: what was held, and what is due after it, was written in part
@@ -74,7 +74,7 @@ OnNext (turn.Ended e) P = ⊤
 OnNext turn.Cut P = ⊤
 
 -- P of how the connection ends
-abbrev pub OnEnded : Turn → (Ending → Type 0) → Type 0
+abbrev pub OnEnded : Turn → (ConnectionEnd → Type 0) → Type 0
 OnEnded turn.Next P = ⊤
 OnEnded (turn.Ended e) P = P e
 OnEnded turn.Cut P = ⊤

@@ -6,7 +6,7 @@ use Rattle.tenant_service.specs.Writing.{AppendsPart, AppendsUpTo}
 use Rattle.crush_http.specs.Wire.{reply_wire, rejection_wire}
 use Rattle.crush_http.specs.Private.Reading.{Finds as FindsIncoming, ReadsOn, call_in}
 use Rattle.crush_http.specs.Private.Served.{EndsCut, EndsHeld, Replies}
-use Rattle.crush_http.specs.declared.connection.Ending.TheVariants.{Bad, Closed, ReadFault}
+use Rattle.crush_http.specs.declared.connection.ConnectionEnd.TheVariants.{Bad, Closed, ReadFault}
 use Rattle.crush_http.proofs.Connecting.{cut_before, ended_before, failed_before, rejected_before, Finds, finds_call, more_to_come, next_after, last_after, cut_after}
 use Rattle.crush_http.proofs.Holding.{part_on, up_to_on}
 use Rattle.crush_http.proofs.Joining.{one_reply}
