@@ -172,18 +172,19 @@ class Trial:
         if not beside:
             return left
         said = self.check(made, seed)
-        names = set()
+        names, found = set(), {}
         for edit in beside if said.is_not_proved() else []:
             function = edit.function(self.texts[edit.file])
             goal = said.own_goal(edit, self.texts[edit.file]) if function else None
             names.add(function[0] if function else None)
             if goal:
-                self.outcomes[edit] = Outcome(Outcome.TOGETHER, goal)
+                found[edit] = Outcome(Outcome.TOGETHER, goal)
             elif len(beside) == 1:
-                self.outcomes[edit] = Outcome(Outcome.ALONE, said.first_goal())
-        if len(beside) > 1 and self.has_others(said, names):
-            # what failed there may have failed for what was changed elsewhere
-            self.outcomes = {it: found for it, found in self.outcomes.items() if it not in beside}
+                found[edit] = Outcome(Outcome.ALONE, said.first_goal())
+        # else what failed there may have failed for what was changed elsewhere; other steps add
+        # theirs meanwhile
+        if len(beside) == 1 or not self.has_others(said, names):
+            self.outcomes.update(found)
         return [it for it in edits if it not in self.outcomes]
 
     def has_others(self, said, names):
