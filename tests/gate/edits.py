@@ -1,9 +1,10 @@
 """Wrong bodies that the prover must refuse: crates/NAME/must-fail/WHAT_IT_DOES.edit, what each
 changes, and the record of what refused it (REFUSED.md beside them).
 
-An edit is a line `file: src/FILE.rt`, then pairs of lines `old: TEXT` and `new: TEXT`. Each old
-text stands once in the file as the pairs before left it. A record is a row for each edit, with the
-digest of all that its refusal rests on (digests.py). It is written by `wrong`, never by hand.
+An edit is a line `file: src/FILE.rt`, then pairs of lines `old: TEXT` and `new: TEXT`, and no
+other line. Each old text stands once in the file as the pairs before left it. A record is a row for
+each edit, with the digest of all that its refusal rests on (digests.py). It is written by `wrong`,
+never by hand.
 """
 import os
 import pathlib
